@@ -8,21 +8,19 @@ use native.Mathlib.Omega.{arith}
 use borrow.Author.Tests.{le-leb, leb-true, ltb-true, eqb-true, eqb-false}
 use lib.Dec.{leb, ltb, eqb}
 use lib.ListN.{length}
-use Rattle.words.proofs.Laws.{both_left, both_right}
+use Rattle.words.proofs.Laws.{both_left, both_right, ok_value, ok_place}
 use Rattle.bits.specs.Bits.{bits_n}
 use Rattle.bits.proofs.Numbers.{Bits}
-use Rattle.fields.specs.Fields.{refused_at, then, bit_field, whole_number, extensible_index, onto}
+use Rattle.fields.specs.Fields.{Reading, refused_at, then, bit_field, whole_number, extensible_index}
 use Rattle.fields.specs.Encodings.{index_bits, whole_bits, whole_fits}
 use Rattle.fields.specs.declared.Refusal.{Refusal}
 use Rattle.fields.specs.declared.Fault.TheVariants.{Default}
-use Rattle.fields.specs.declared.Field.TheVariants.{Value, Refused}
 use Rattle.fields.proofs.RoundTrip.{Stands, stands_join, stands_split, bit_field_is, whole_number_is, extensible_index_is}
-use Rattle.fields.proofs.RoundTrip as fields
 use Rattle.apdu.specs.Sizes.{user_last, provider_last, mode_last, bit}
 use Rattle.apdu.specs.Headings.{response_last}
 use Rattle.apdu.specs.Pdus.{Pdu, abort_user, abort_provider, start, send, forward, forward_response, last_of, kind_of, index_of, forwards, items_in, pdu_in}
 use Rattle.apdu.specs.Encoding.{alternative, content_bits, content_fits, forward_bits, forward_pdu_fits, mode_bits, mode_fits, pdu_bits, pdu_fits}
-use Rattle.apdu.specs.Reading.{on_data, on_forward, on_lead, data_at, forward_at, mode_value, mode_at, kind_mode, leading_at, tail_at, ended_at, rest_within, rest_at, apdu_within, apdu_at}
+use Rattle.apdu.specs.Reading.{data_at, forward_at, mode_value, mode_at, kind_mode, leading_at, tail_at, ended_at, rest_within, rest_at, apdu_within, apdu_at}
 use Rattle.apdu.specs.Writing.{forward_fits, apdu_fits}
 use Rattle.pdus.specs.declared.PduType.{PduType}
 use Rattle.pdus.specs.declared.PduType.TheVariants.{AircraftPdus, GroundPdus}
@@ -30,29 +28,22 @@ use Rattle.apdu.specs.declared.Kind.{Kind}
 use Rattle.apdu.specs.declared.Kind.TheVariants as kind
 use Rattle.apdu.specs.declared.Data.{Data}
 use Rattle.apdu.specs.declared.Forward.{Forward}
-use Rattle.apdu.specs.declared.Forwarded.{Forwarded}
-use Rattle.apdu.specs.declared.Forwarded.TheVariants as forwarded
 use Rattle.apdu.specs.declared.Apdu.{Apdu}
 use Rattle.apdu.specs.declared.Apdu.TheVariants as apdu
-use Rattle.apdu.specs.declared.Taken.{Taken}
-use Rattle.apdu.specs.declared.Taken.TheVariants as taken
-use Rattle.apdu.specs.declared.Lead.{Lead}
-use Rattle.apdu.specs.declared.Lead.TheVariants as lead
-use Rattle.apdu.specs.declared.Decoded.{Decoded}
-use Rattle.apdu.specs.declared.Decoded.TheVariants as decoded
 use Rattle.apdu.proofs.Bounds.{never}
-use Rattle.apdu.proofs.Contents.{stands_at, stands_none, via, data_written, DataIs, data_read}
+use Rattle.apdu.proofs.Contents.{stands_at, stands_none, on_value, data_written, DataIs, data_read}
 use Rattle.apdu.proofs.Forwards.{forward_written, forward_read}
+use Rattle.std.specs.Prelude.{Err, Ok, Result}
 
 -- ---- the mode of a start
 
 value_written : (l : List ℕ) (at m next : ℕ) → whole_fits 0 mode_last m ≡ true → eqb m 0 ≡ false
-    → Stands l at (whole_bits 0 mode_last m) next → mode_value l at ≡ Value m next
+    → Stands l at (whole_bits 0 mode_last m) next → mode_value l at ≡ Ok (m, next)
 unfolding mode_value
 value_written l at m next h e s = rw ((whole_number_is 0 mode_last (omega arith)).written_read l at m next h s, e)
 
 pub mode_written : (pdus : PduType) (l : List ℕ) (at m next : ℕ) → mode_fits pdus m ≡ true
-    → Stands l at (mode_bits pdus m) next → mode_at pdus l at ≡ Value m next
+    → Stands l at (mode_bits pdus m) next → mode_at pdus l at ≡ Ok (m, next)
 unfolding mode_fits mode_bits mode_at
 mode_written GroundPdus l at m next h s =
     let z : m ≡ 0 = eqb-true m 0 h in
@@ -62,7 +53,7 @@ mode_written GroundPdus l at m next h s =
 mode_written AircraftPdus l at m next h s = go (eqb m 0) refl s
   where
     go : (t : Bool) → eqb m 0 ≡ t → Stands l at (cond t (bits_n 1 0) (bits_n 1 1 ++ whole_bits 0 mode_last m)) next
-        → then (bit_field l at 1) (λ (p n : ℕ). cond (eqb p 0) (Value 0 n) (mode_value l n)) ≡ Value m next
+        → then (bit_field l at 1) (λ (p n : ℕ). cond (eqb p 0) (Ok (0, n)) (mode_value l n)) ≡ Ok (m, next)
     go true e s =
         let z : m ≡ 0 = eqb-true m 0 e in
         rw ((bit_field_is 1).written_read l at 0 next refl s, z)
@@ -80,21 +71,21 @@ record ValueIs (l : List ℕ) (at m next : ℕ) : Type 0 where
   fits : whole_fits 0 mode_last m ≡ true
   stands : Stands l at (whole_bits 0 mode_last m) next
 
-value_read : (l : List ℕ) (at m next : ℕ) → Bits l → mode_value l at ≡ Value m next → ValueIs l at m next
+value_read : (l : List ℕ) (at m next : ℕ) → Bits l → mode_value l at ≡ Ok (m, next) → ValueIs l at m next
 unfolding mode_value
-value_read l at m next b e = fields.via (ValueIs l at m next) (whole_number l at 0 mode_last) _ m next found e
+value_read l at m next b e = on_value (ValueIs l at m next) (m, next) (whole_number l at 0 mode_last) _ found e
   where
-    go : (v n : ℕ) → whole_number l at 0 mode_last ≡ Value v n → (t : Bool) → eqb v 0 ≡ t
-        → cond t (refused_at at Default) (Value v n) ≡ Value m next → ValueIs l at m next
+    go : (v n : ℕ) → whole_number l at 0 mode_last ≡ Ok (v, n) → (t : Bool) → eqb v 0 ≡ t
+        → cond {A = Reading ℕ} t (refused_at at Default) (Ok (v, n)) ≡ Ok (m, next) → ValueIs l at m next
     go v n f true p k = never (cc)
     go v n f false p k =
-        let x : v ≡ m = cc in
-        let y : n ≡ next = cc in
-        let g : whole_number l at 0 mode_last ≡ Value m next = rw (← x, ← y) f in
+        let x : v ≡ m = ok_value k in
+        let y : n ≡ next = ok_place k in
+        let g : whole_number l at 0 mode_last ≡ Ok (m, next) = rw (← x, ← y) f in
         record { other = rw (← x) p; fits = (whole_number_is 0 mode_last (omega arith)).read_fits l at m next b g; stands = (whole_number_is 0 mode_last (omega arith)).read_written l at m next b g }
 
-    found : (v n : ℕ) → whole_number l at 0 mode_last ≡ Value v n
-        → cond (eqb v 0) (refused_at at Default) (Value v n) ≡ Value m next → ValueIs l at m next
+    found : (v n : ℕ) → whole_number l at 0 mode_last ≡ Ok (v, n)
+        → cond {A = Reading ℕ} (eqb v 0) (refused_at at Default) (Ok (v, n)) ≡ Ok (m, next) → ValueIs l at m next
     found v n f k = go v n f (eqb v 0) refl k
 
 present : (l : List ℕ) (at p m next : ℕ) → Stands l at (bits_n 1 1) p → ValueIs l p m next → ModeIs AircraftPdus l at m next
@@ -105,25 +96,25 @@ default : (l : List ℕ) (at next : ℕ) → Stands l at (bits_n 1 0) next → M
 unfolding mode_fits mode_bits
 default l at next s = record { fits = refl; stands = s }
 
-pub mode_read : (pdus : PduType) (l : List ℕ) (at m next : ℕ) → Bits l → at ≤ length l → mode_at pdus l at ≡ Value m next
+pub mode_read : (pdus : PduType) (l : List ℕ) (at m next : ℕ) → Bits l → at ≤ length l → mode_at pdus l at ≡ Ok (m, next)
     → ModeIs pdus l at m next
 unfolding mode_at mode_fits mode_bits
 mode_read GroundPdus l at m next b h e =
-    let x : 0 ≡ m = cc in
-    let y : at ≡ next = cc in
+    let x : 0 ≡ m = ok_value e in
+    let y : at ≡ next = ok_place e in
     rw (← x) (record { fits = refl; stands = stands_at l at at next [] y (stands_none l at h) })
-mode_read AircraftPdus l at m next b h e = fields.via (ModeIs AircraftPdus l at m next) (bit_field l at 1) _ m next found e
+mode_read AircraftPdus l at m next b h e = on_value (ModeIs AircraftPdus l at m next) (m, next) (bit_field l at 1) _ found e
   where
     one : (p : ℕ) → p < 2 → eqb p 0 ≡ false → p ≡ 1
     one p h e =
         let n = eqb-false p 0 e in
         omega arith
 
-    go : (p n : ℕ) → bit_field l at 1 ≡ Value p n → (t : Bool) → eqb p 0 ≡ t
-        → cond t (Value 0 n) (mode_value l n) ≡ Value m next → ModeIs AircraftPdus l at m next
+    go : (p n : ℕ) → bit_field l at 1 ≡ Ok (p, n) → (t : Bool) → eqb p 0 ≡ t
+        → cond t (Ok (0, n)) (mode_value l n) ≡ Ok (m, next) → ModeIs AircraftPdus l at m next
     go p n f true q k =
-        let x : 0 ≡ m = cc in
-        let y : n ≡ next = cc in
+        let x : 0 ≡ m = ok_value k in
+        let y : n ≡ next = ok_place k in
         let z : p ≡ 0 = eqb-true p 0 q in
         rw (← x) (default l at next (stands_at l at n next (bits_n 1 0) y (rw z at ((bit_field_is 1).read_written l at p n b f))))
     go p n f false q k =
@@ -131,7 +122,7 @@ mode_read AircraftPdus l at m next b h e = fields.via (ModeIs AircraftPdus l at 
         let z : p ≡ 1 = one p (omega arith) q in
         present l at n m next (rw z at ((bit_field_is 1).read_written l at p n b f)) (value_read l n m next b k)
 
-    found : (p n : ℕ) → bit_field l at 1 ≡ Value p n → cond (eqb p 0) (Value 0 n) (mode_value l n) ≡ Value m next
+    found : (p n : ℕ) → bit_field l at 1 ≡ Ok (p, n) → cond (eqb p 0) (Ok (0, n)) (mode_value l n) ≡ Ok (m, next)
         → ModeIs AircraftPdus l at m next
     found p n f k = go p n f (eqb p 0) refl k
 
@@ -145,7 +136,7 @@ pub record FieldsRead (pdus : PduType) (l : List ℕ) (at m : ℕ) (v : Pdu) : T
 
 pub record ApduRead (pdus : PduType) (l : List ℕ) (at : ℕ) (v : Pdu) : Type 0 where
   pub value : Apdu
-  pub read : apdu_at pdus l at ≡ decoded.Is value
+  pub read : apdu_at pdus l at ≡ Ok value
   pub same : pdu_in l l l value ≡ v
 
 pub small : (pdus : PduType) → last_of pdus < 2 ^ 64
@@ -205,23 +196,23 @@ fields_written pdus l at m (forward_response r) h s =
     (both_right (forwards pdus) (whole_fits 0 response_last r) h) w.second in
     record { value = apdu.ForwardResponse r; read = rw (a, b); same = refl }
 
-pub ended_well : (l : List ℕ) (at v next : ℕ) (a : Apdu) → tail_at l at ≡ Value v next → ended_at l at a ≡ decoded.Is a
+pub ended_well : (l : List ℕ) (at v next : ℕ) (a : Apdu) → tail_at l at ≡ Ok (v, next) → ended_at l at a ≡ Ok a
 unfolding ended_at
 ended_well l at v next a t = rw t
 
-ended_badly : (l : List ℕ) (at : ℕ) (a : Apdu) (r : Refusal) → tail_at l at ≡ Refused r → ended_at l at a ≡ decoded.Refused r
+ended_badly : (l : List ℕ) (at : ℕ) (a : Apdu) (r : Refusal) → tail_at l at ≡ Err r → ended_at l at a ≡ Err r
 unfolding ended_at
 ended_badly l at a r t = rw t
 
 pub apdu_written : (pdus : PduType) (l : List ℕ) (at m next : ℕ) (v : Pdu) → pdu_fits pdus v ≡ true
-    → Stands l at (pdu_bits pdus v) m → tail_at l m ≡ Value 0 next → ApduRead pdus l at v
+    → Stands l at (pdu_bits pdus v) m → tail_at l m ≡ Ok (0, next) → ApduRead pdus l at v
 apdu_written pdus l at m next v h s t =
     let f = fields_written pdus l at m v h s in
     record { value = f.value; read = f.read ∙ ended_well l m 0 next f.value t; same = f.same }
 
 -- all fields stand, and the tail is not right
 pub tail_refused : (pdus : PduType) (l : List ℕ) (at m : ℕ) (v : Pdu) (r : Refusal) → pdu_fits pdus v ≡ true
-    → Stands l at (pdu_bits pdus v) m → tail_at l m ≡ Refused r → apdu_at pdus l at ≡ decoded.Refused r
+    → Stands l at (pdu_bits pdus v) m → tail_at l m ≡ Err r → apdu_at pdus l at ≡ Err r
 tail_refused pdus l at m v r h s t =
     let f = fields_written pdus l at m v h s in
     f.read ∙ ended_badly l m f.value r t
@@ -250,32 +241,19 @@ pub record ApduIs (pdus : PduType) (l : List ℕ) (at : ℕ) (a : Apdu) : Type 0
   pub end : ℕ
   pub placed_fits : apdu_fits pdus l l l a ≡ true
   pub stands : Standing pdus l at place a
-  pub tail : tail_at l place ≡ Value left end
-
-pub refused_not : (R : Type 0) (a : Apdu) (r : Refusal) → decoded.Refused r ≡ decoded.Is a → R
-refused_not R a r e = never (cc)
-
-pub via_data : (R : Type 0) (a : Apdu) (x : Taken) (k : Data → ℕ → Decoded)
-    → ((d : Data) (n : ℕ) → x ≡ taken.Is d n → k d n ≡ decoded.Is a → R) → on_data x k ≡ decoded.Is a → R
-via_data R a (taken.Is d n) k g e = g d n refl e
-via_data R a (taken.Refused r) k g e = refused_not R a r e
-
-pub via_lead : (R : Type 0) (a : Apdu) (x : Lead) (k : Kind → ℕ → ℕ → Decoded)
-    → ((c : Kind) (m n : ℕ) → x ≡ lead.Is c m n → k c m n ≡ decoded.Is a → R) → on_lead x k ≡ decoded.Is a → R
-via_lead R a (lead.Is c m n) k g e = g c m n refl e
-via_lead R a (lead.Refused r) k g e = refused_not R a r e
+  pub tail : tail_at l place ≡ Ok (left, end)
 
 pub record Ended (l : List ℕ) (at : ℕ) (a b : Apdu) : Type 0 where
   pub left : ℕ
   pub end : ℕ
-  pub tail : tail_at l at ≡ Value left end
+  pub tail : tail_at l at ≡ Ok (left, end)
   pub same : b ≡ a
 
-pub ended_is : (l : List ℕ) (at : ℕ) (a b : Apdu) → ended_at l at b ≡ decoded.Is a → Ended l at a b
+pub ended_is : (l : List ℕ) (at : ℕ) (a b : Apdu) → ended_at l at b ≡ Ok a → Ended l at a b
 unfolding ended_at
-ended_is l at a b e = via (Ended l at a b) decoded.Refused (decoded.Is a) (refused_not (Ended l at a b) a) (tail_at l at) _ found e
+ended_is l at a b e = on_value (Ended l at a b) a (tail_at l at) _ found e
   where
-    found : (v n : ℕ) → tail_at l at ≡ Value v n → decoded.Is b ≡ decoded.Is a → Ended l at a b
+    found : (v n : ℕ) → tail_at l at ≡ Ok (v, n) → ◌≡◌ {A = Result Apdu Refusal} (Ok b) (Ok a) → Ended l at a b
     found v n f k = record { left = v; end = n; tail = f; same = cc }
 
 -- the alternative that was read
@@ -283,7 +261,7 @@ pub record LeadIs (pdus : PduType) (l : List ℕ) (at : ℕ) (c : Kind) (m next 
   pub place : ℕ
   pub most : index_of c ≤ last_of pdus
   pub stands : Stands l at (index_bits (last_of pdus) (index_of c)) place
-  pub mode : kind_mode pdus l c place ≡ Value m next
+  pub mode : kind_mode pdus l c place ≡ Ok (m, next)
 
 index_kind : (i : ℕ) → i ≤ 5 → index_of (kind_of i) ≡ i
 index_kind zero h = refl
@@ -298,40 +276,36 @@ last_most : (pdus : PduType) (i : ℕ) → i ≤ last_of pdus → i ≤ 5
 last_most AircraftPdus i h = omega arith
 last_most GroundPdus i h = h
 
-lead_not : (R : Type 0) (c : Kind) (m n : ℕ) (r : Refusal) → lead.Refused r ≡ lead.Is c m n → R
-lead_not R c m n r e = never (cc)
-
 pub lead_read : (pdus : PduType) (l : List ℕ) (at : ℕ) (c : Kind) (m next : ℕ) → Bits l
-    → leading_at pdus l at ≡ lead.Is c m next → LeadIs pdus l at c m next
+    → leading_at pdus l at ≡ Ok ((c, m), next) → LeadIs pdus l at c m next
 unfolding leading_at
-lead_read pdus l at c m next b e = via (LeadIs pdus l at c m next) lead.Refused (lead.Is c m next)
-    (lead_not (LeadIs pdus l at c m next) c m next) (extensible_index l at (last_of pdus)) _ first e
+lead_read pdus l at c m next b e = on_value (LeadIs pdus l at c m next) ((c, m), next) (extensible_index l at (last_of pdus)) _ first e
   where
-    second : (i p : ℕ) → extensible_index l at (last_of pdus) ≡ Value i p → (v q : ℕ)
-        → kind_mode pdus l (kind_of i) p ≡ Value v q → lead.Is (kind_of i) v q ≡ lead.Is c m next
+    second : (i p : ℕ) → extensible_index l at (last_of pdus) ≡ Ok (i, p) → (v q : ℕ)
+        → kind_mode pdus l (kind_of i) p ≡ Ok (v, q) → ◌≡◌ {A = Reading (Kind × ℕ)} (Ok ((kind_of i, v), q)) (Ok ((c, m), next))
         → LeadIs pdus l at c m next
     second i p f v q g k =
-        let x : kind_of i ≡ c = cc in
-        let y : v ≡ m = cc in
-        let z : q ≡ next = cc in
+        let w : ◌≡◌ {A = Kind × ℕ} (kind_of i, v) (c, m) = ok_value k in
+        let x : kind_of i ≡ c = ap (λ (p : Kind × ℕ). p.0) w in
+        let y : v ≡ m = ap (λ (p : Kind × ℕ). p.1) w in
+        let z : q ≡ next = ok_place k in
         let h : i ≤ last_of pdus = leb-true i (last_of pdus) (both_right (leb 0 i) (leb i (last_of pdus))
         ((extensible_index_is (last_of pdus) (small pdus)).read_fits l at i p b f)) in
         let j : i ≡ index_of c = sym (index_kind i (last_most pdus i h)) ∙ ap index_of x in
         let s : Stands l at (index_bits (last_of pdus) i) p = (extensible_index_is (last_of pdus) (small pdus)).read_written l at i p b f in
         record { place = p; most = rw (← j) h; stands = rw (← j) s; mode = rw (← x, ← y, ← z) g }
 
-    first : (i p : ℕ) → extensible_index l at (last_of pdus) ≡ Value i p
-        → onto lead.Refused (kind_mode pdus l (kind_of i) p) (λ (v q : ℕ). lead.Is (kind_of i) v q) ≡ lead.Is c m next
+    first : (i p : ℕ) → extensible_index l at (last_of pdus) ≡ Ok (i, p)
+        → then {A = ℕ} {B = (Kind × ℕ) × ℕ} (kind_mode pdus l (kind_of i) p) (λ (v q : ℕ). Ok ((kind_of i, v), q)) ≡ Ok ((c, m), next)
         → LeadIs pdus l at c m next
-    first i p f k = via (LeadIs pdus l at c m next) lead.Refused (lead.Is c m next)
-        (lead_not (LeadIs pdus l at c m next) c m next) (kind_mode pdus l (kind_of i) p) _ (second i p f) k
+    first i p f k = on_value (LeadIs pdus l at c m next) ((c, m), next) (kind_mode pdus l (kind_of i) p) _ (second i p f) k
 
 -- what follows each alternative
 pub record Stood (pdus : PduType) (l : List ℕ) (at : ℕ) (a : Apdu) (next : ℕ) : Type 0 where
   pub placed_fits : apdu_fits pdus l l l a ≡ true
   pub stands : Standing pdus l at next a
 
-ended_read : (pdus : PduType) (l : List ℕ) (at n : ℕ) (a b : Apdu) → Stood pdus l at b n → ended_at l n b ≡ decoded.Is a → ApduIs pdus l at a
+ended_read : (pdus : PduType) (l : List ℕ) (at n : ℕ) (a b : Apdu) → Stood pdus l at b n → ended_at l n b ≡ Ok a → ApduIs pdus l at a
 ended_read pdus l at n a b u k =
     let e = ended_is l n a b k in
     rw (← e.same) (record { place = n; left = e.left; end = e.end; placed_fits = u.placed_fits; stands = u.stands; tail = e.tail })
@@ -341,26 +315,26 @@ pub record ReasonIs (l : List ℕ) (at n r most : ℕ) (bs : List ℕ) : Type 0 
   pub stands : Stands l at (bs ++ index_bits most r) n
 
 pub reason_is : (l : List ℕ) (at p n r most : ℕ) (bs : List ℕ) → Bits l → most < 2 ^ 64 → Stands l at bs p
-    → extensible_index l p most ≡ Value r n → ReasonIs l at n r most bs
+    → extensible_index l p most ≡ Ok (r, n) → ReasonIs l at n r most bs
 reason_is l at p n r most bs h lt s f =
     record { fits = (extensible_index_is most lt).read_fits l p r n h f; stands = stands_join l at p n bs (index_bits most r) s ((extensible_index_is most lt).read_written l p r n h f) }
 
 pub user_stood : (pdus : PduType) (l : List ℕ) (at p n r : ℕ) → Bits l → Stands l at (index_bits (last_of pdus) 0) p
-    → extensible_index l p user_last ≡ Value r n → Stood pdus l at (apdu.AbortUser r) n
+    → extensible_index l p user_last ≡ Ok (r, n) → Stood pdus l at (apdu.AbortUser r) n
 unfolding apdu_fits
 user_stood pdus l at p n r b s f =
     let i = reason_is l at p n r user_last (index_bits (last_of pdus) 0) b (omega arith) s f in
     record { placed_fits = i.fits; stands = i.stands }
 
 pub provider_stood : (pdus : PduType) (l : List ℕ) (at p n r : ℕ) → Bits l → Stands l at (index_bits (last_of pdus) 1) p
-    → extensible_index l p provider_last ≡ Value r n → Stood pdus l at (apdu.AbortProvider r) n
+    → extensible_index l p provider_last ≡ Ok (r, n) → Stood pdus l at (apdu.AbortProvider r) n
 unfolding apdu_fits
 provider_stood pdus l at p n r b s f =
     let i = reason_is l at p n r provider_last (index_bits (last_of pdus) 1) b (omega arith) s f in
     record { placed_fits = i.fits; stands = i.stands }
 
 pub start_stood : (pdus : PduType) (l : List ℕ) (at p q n m : ℕ) (d : Data) → Bits l
-    → Stands l at (index_bits (last_of pdus) 2) p → mode_at pdus l p ≡ Value m q → data_at l q ≡ taken.Is d n
+    → Stands l at (index_bits (last_of pdus) 2) p → mode_at pdus l p ≡ Ok (m, q) → data_at l q ≡ Ok (d, n)
     → Stood pdus l at (apdu.Start m d) n
 unfolding apdu_fits
 start_stood pdus l at p q n m d b s f g =
@@ -371,35 +345,29 @@ start_stood pdus l at p q n m d b s f g =
     record { placed_fits = rw v.fits w.placed_fits; stands = record { place = q; lead = stands_join l at p q _ _ s v.stands; held = w } }
 
 pub send_stood : (pdus : PduType) (l : List ℕ) (at p n : ℕ) (d : Data) → Bits l
-    → Stands l at (index_bits (last_of pdus) 3) p → data_at l p ≡ taken.Is d n → Stood pdus l at (apdu.Send d) n
+    → Stands l at (index_bits (last_of pdus) 3) p → data_at l p ≡ Ok (d, n) → Stood pdus l at (apdu.Send d) n
 unfolding apdu_fits
 send_stood pdus l at p n d b s g =
     let w = data_read l p n d b g in
     record { placed_fits = w.placed_fits; stands = record { place = p; lead = s; held = w } }
 
-pub value_place : (p m q : ℕ) → Value 0 p ≡ Value m q → p ≡ q
-value_place p m q e = cc
+pub value_place : (p m q : ℕ) → ◌≡◌ {A = Reading ℕ} (Ok (0, p)) (Ok (m, q)) → p ≡ q
+value_place p m q e = ok_place e
 
 -- what is read as one of the last two alternatives is GroundPDUs
 pub ground_only : (pdus : PduType) (i : ℕ) → i ≤ last_of pdus → 3 < i → forwards pdus ≡ true
 ground_only AircraftPdus i h g = absurd (omega arith)
 ground_only GroundPdus i h g = refl
 
-pub via_forward : (R : Type 0) (a : Apdu) (x : Forwarded) (k : Forward → ℕ → Decoded)
-    → ((f : Forward) (n : ℕ) → x ≡ forwarded.Is f n → k f n ≡ decoded.Is a → R)
-    → on_forward decoded.Refused x k ≡ decoded.Is a → R
-via_forward R a (forwarded.Is f n) k g e = g f n refl e
-via_forward R a (forwarded.Refused r) k g e = refused_not R a r e
-
 pub forward_stood : (pdus : PduType) (l : List ℕ) (at p n : ℕ) (f : Forward) → Bits l → forwards pdus ≡ true
-    → Stands l at (index_bits (last_of pdus) 4) p → forward_at l p ≡ forwarded.Is f n → Stood pdus l at (apdu.Forward f) n
+    → Stands l at (index_bits (last_of pdus) 4) p → forward_at l p ≡ Ok (f, n) → Stood pdus l at (apdu.Forward f) n
 unfolding apdu_fits
 forward_stood pdus l at p n f b y s g =
     let w = forward_read l p f n b g in
     record { placed_fits = rw y w.placed_fits; stands = stands_join l at p n _ _ s w.stands }
 
 pub response_stood : (pdus : PduType) (l : List ℕ) (at p n r : ℕ) → Bits l → forwards pdus ≡ true
-    → Stands l at (index_bits (last_of pdus) 5) p → extensible_index l p response_last ≡ Value r n
+    → Stands l at (index_bits (last_of pdus) 5) p → extensible_index l p response_last ≡ Ok (r, n)
     → Stood pdus l at (apdu.ForwardResponse r) n
 unfolding apdu_fits
 response_stood pdus l at p n r b y s g =
@@ -407,43 +375,43 @@ response_stood pdus l at p n r b y s g =
     record { placed_fits = rw y i.fits; stands = i.stands }
 
 rest_read : (pdus : PduType) (l : List ℕ) (at p : ℕ) (c : Kind) (m q : ℕ) (a : Apdu) → Bits l
-    → (index_of c ≤ last_of pdus) → Stands l at (index_bits (last_of pdus) (index_of c)) p → kind_mode pdus l c p ≡ Value m q
-    → rest_at l c m q ≡ decoded.Is a → ApduIs pdus l at a
+    → (index_of c ≤ last_of pdus) → Stands l at (index_bits (last_of pdus) (index_of c)) p → kind_mode pdus l c p ≡ Ok (m, q)
+    → rest_at l c m q ≡ Ok a → ApduIs pdus l at a
 unfolding kind_mode rest_within
 rest_read pdus l at p kind.AbortUser m q a b h s f k =
-    via (ApduIs pdus l at a) decoded.Refused (decoded.Is a) (refused_not (ApduIs pdus l at a) a) (extensible_index l q user_last) _
-    (λ (r n : ℕ) (g : extensible_index l q user_last ≡ Value r n) (e : ended_at l n (apdu.AbortUser r) ≡ decoded.Is a).
+    on_value (ApduIs pdus l at a) a (extensible_index l q user_last) _
+    (λ (r n : ℕ) (g : extensible_index l q user_last ≡ Ok (r, n)) (e : ended_at l n (apdu.AbortUser r) ≡ Ok a).
     ended_read pdus l at n a (apdu.AbortUser r)
     (user_stood pdus l at q n r b (stands_at l at p q _ (value_place p m q f) s) g) e) k
 rest_read pdus l at p kind.AbortProvider m q a b h s f k =
-    via (ApduIs pdus l at a) decoded.Refused (decoded.Is a) (refused_not (ApduIs pdus l at a) a) (extensible_index l q provider_last) _
-    (λ (r n : ℕ) (g : extensible_index l q provider_last ≡ Value r n)
-    (e : ended_at l n (apdu.AbortProvider r) ≡ decoded.Is a). ended_read pdus l at n a (apdu.AbortProvider r)
+    on_value (ApduIs pdus l at a) a (extensible_index l q provider_last) _
+    (λ (r n : ℕ) (g : extensible_index l q provider_last ≡ Ok (r, n))
+    (e : ended_at l n (apdu.AbortProvider r) ≡ Ok a). ended_read pdus l at n a (apdu.AbortProvider r)
     (provider_stood pdus l at q n r b (stands_at l at p q _ (value_place p m q f) s) g) e) k
 rest_read pdus l at p kind.Start m q a b h s f k =
-    via_data (ApduIs pdus l at a) a (data_at l q) _ (λ (d : Data) (n : ℕ) (g : data_at l q ≡ taken.Is d n)
-    (e : ended_at l n (apdu.Start m d) ≡ decoded.Is a). ended_read pdus l at n a (apdu.Start m d)
+    on_value (ApduIs pdus l at a) a (data_at l q) _ (λ (d : Data) (n : ℕ) (g : data_at l q ≡ Ok (d, n))
+    (e : ended_at l n (apdu.Start m d) ≡ Ok a). ended_read pdus l at n a (apdu.Start m d)
     (start_stood pdus l at p q n m d b s f g) e) k
 rest_read pdus l at p kind.Send m q a b h s f k =
-    via_data (ApduIs pdus l at a) a (data_at l q) _ (λ (d : Data) (n : ℕ) (g : data_at l q ≡ taken.Is d n)
-    (e : ended_at l n (apdu.Send d) ≡ decoded.Is a). ended_read pdus l at n a (apdu.Send d)
+    on_value (ApduIs pdus l at a) a (data_at l q) _ (λ (d : Data) (n : ℕ) (g : data_at l q ≡ Ok (d, n))
+    (e : ended_at l n (apdu.Send d) ≡ Ok a). ended_read pdus l at n a (apdu.Send d)
     (send_stood pdus l at q n d b (stands_at l at p q _ (value_place p m q f) s) g) e) k
 rest_read pdus l at p kind.Forward m q a b h s f k =
-    via_forward (ApduIs pdus l at a) a (forward_at l q) _ (λ (x : Forward) (n : ℕ) (g : forward_at l q ≡ forwarded.Is x n) (e : ended_at l n (apdu.Forward x) ≡ decoded.Is a).
+    on_value (ApduIs pdus l at a) a (forward_at l q) _ (λ (x : Forward) (n : ℕ) (g : forward_at l q ≡ Ok (x, n)) (e : ended_at l n (apdu.Forward x) ≡ Ok a).
     ended_read pdus l at n a (apdu.Forward x) (forward_stood pdus l at q n x b (ground_only pdus 4 h (omega arith))
     (stands_at l at p q _ (value_place p m q f) s) g) e) k
 rest_read pdus l at p kind.ForwardResponse m q a b h s f k =
-    via (ApduIs pdus l at a) decoded.Refused (decoded.Is a) (refused_not (ApduIs pdus l at a) a) (extensible_index l q response_last) _
-    (λ (r n : ℕ) (g : extensible_index l q response_last ≡ Value r n)
-    (e : ended_at l n (apdu.ForwardResponse r) ≡ decoded.Is a). ended_read pdus l at n a
+    on_value (ApduIs pdus l at a) a (extensible_index l q response_last) _
+    (λ (r n : ℕ) (g : extensible_index l q response_last ≡ Ok (r, n))
+    (e : ended_at l n (apdu.ForwardResponse r) ≡ Ok a). ended_read pdus l at n a
     (apdu.ForwardResponse r) (response_stood pdus l at q n r b (ground_only pdus 5 h (omega arith))
     (stands_at l at p q _ (value_place p m q f) s) g) e) k
 
-pub apdu_read : (pdus : PduType) (l : List ℕ) (at : ℕ) (a : Apdu) → Bits l → apdu_at pdus l at ≡ decoded.Is a → ApduIs pdus l at a
+pub apdu_read : (pdus : PduType) (l : List ℕ) (at : ℕ) (a : Apdu) → Bits l → apdu_at pdus l at ≡ Ok a → ApduIs pdus l at a
 unfolding apdu_within
-apdu_read pdus l at a b e = via_lead (ApduIs pdus l at a) a (leading_at pdus l at) (rest_at l) found e
+apdu_read pdus l at a b e = on_value (ApduIs pdus l at a) a (leading_at pdus l at) _ found e
   where
-    found : (c : Kind) (m n : ℕ) → leading_at pdus l at ≡ lead.Is c m n → rest_at l c m n ≡ decoded.Is a → ApduIs pdus l at a
-    found c m n f k =
+    found : (lead : Kind × ℕ) (n : ℕ) → leading_at pdus l at ≡ Ok (lead, n) → rest_at l lead.0 lead.1 n ≡ Ok a → ApduIs pdus l at a
+    found (c, m) n f k =
         let i = lead_read pdus l at c m n b f in
         rest_read pdus l at i.place c m n a b i.most i.stands i.mode k

@@ -25,14 +25,13 @@ use Rattle.apdu.specs.Writing.{items_fit, part_fits, data_fits, forward_fits, ap
 use Rattle.pdus.specs.declared.PduType.{PduType}
 use Rattle.pdus.specs.declared.PduType.TheVariants.{AircraftPdus, GroundPdus}
 use Rattle.pdus.specs.declared.Span.{Span}
-use Rattle.apdu.specs.declared.Part.{Part}
-use Rattle.apdu.specs.declared.Part.TheVariants.{Absent, Given}
 use Rattle.apdu.specs.declared.Data.{Data}
 use Rattle.apdu.specs.declared.Heading.{Heading}
 use Rattle.apdu.specs.declared.Forward.{Forward}
 use Rattle.apdu.specs.declared.Apdu.{Apdu}
 use Rattle.apdu.specs.declared.Apdu.TheVariants as apdu
 use Rattle.apdu.proofs.Heads.{heading_most, heading_most_is}
+use Rattle.std.specs.Prelude.{None, Option, Some}
 
 -- zero is not one
 pub never : {A : Type 0} → ◌≡◌ {A = ℕ} 0 1 → A
@@ -89,11 +88,11 @@ pub items_value_fits : (l : List ℕ) (unit least most : ℕ) (x : Span) → 0 <
 items_value_fits l unit least most x pos s =
     rw (items_count l unit x pos s.held, length_items l unit x s.held, eq-eqb (unit * x.count) (unit * x.count) refl) s.fits
 
-pub part_value_fits : (l : List ℕ) (unit least most : ℕ) (p : Part) → 0 < unit → part_fits l unit least most p ≡ true
+pub part_value_fits : (l : List ℕ) (unit least most : ℕ) (p : Option Span) → 0 < unit → part_fits l unit least most p ≡ true
     → optional_fits unit least most (part_in l unit p) ≡ true
 unfolding part_fits optional_fits part_in
-part_value_fits l unit least most Absent pos h = refl
-part_value_fits l unit least most (Given x) pos h = items_value_fits l unit least most x pos (items_fits l unit least most x h)
+part_value_fits l unit least most None pos h = refl
+part_value_fits l unit least most (Some x) pos h = items_value_fits l unit least most x pos (items_fits l unit least most x h)
 
 -- ---- message data
 

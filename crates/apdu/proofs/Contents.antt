@@ -9,28 +9,25 @@ use borrow.Author.Tests.{ltb-true, eqb-true}
 use lib.Dec.{leb, ltb, eqb}
 use lib.ListN.{length, take, drop, get_or}
 use lib.Seq.{get_or-take, get_or-drop}
-use Rattle.words.proofs.Laws.{both_left, both_right}
+use Rattle.words.proofs.Laws.{both_left, both_right, ok_value, ok_place}
 use Rattle.bits.specs.Bits.{bits_n}
 use Rattle.bits.proofs.Numbers.{Bits, bits_n_suc, length_bits_n}
 use Rattle.fields.specs.Additions.{additions_at}
-use Rattle.fields.specs.Fields.{bit_field, string_at, onto}
+use Rattle.fields.specs.Fields.{Reading, bit_field, string_at, then}
 use Rattle.fields.specs.Encodings.{bits_fit, length_bits, within_fits}
 use Rattle.fields.specs.declared.Refusal.{Refusal}
-use Rattle.fields.specs.declared.Field.{Field}
-use Rattle.fields.specs.declared.Field.TheVariants.{Value, Refused}
 use Rattle.fields.proofs.RoundTrip.{Stands, stands_join, stands_split, bit_field_is, string_read, string_written}
 use Rattle.apdu.specs.Sizes.{identifier_least, identifier_most, message_most, check_most, octet, bit}
 use Rattle.apdu.specs.Pdus.{Optional, absent, given, Content, items_in, part_in, content_in}
 use Rattle.apdu.specs.Encoding.{string_bits, string_fits, optional_bits, optional_fits, presence, root_bits, content_bits, content_fits}
-use Rattle.apdu.specs.Reading.{on_taken, span_to, part_at, optional_at, parts_within, parts_at, with_additions, data_within, data_at}
+use Rattle.apdu.specs.Reading.{span_to, part_at, optional_at, parts_within, parts_at, with_additions, data_within, data_at}
 use Rattle.apdu.specs.Stripped.{root_end}
 use Rattle.apdu.specs.Writing.{items_fit, part_fits, data_fits}
-use Rattle.apdu.specs.declared.Part.{Part}
 use Rattle.apdu.specs.declared.Data.{Data}
-use Rattle.apdu.specs.declared.Taken.{Taken}
-use Rattle.apdu.specs.declared.Taken.TheVariants as taken
 use Rattle.apdu.proofs.Answers.{string_room}
 use Rattle.apdu.proofs.Bounds.{never, fits_items, string_is}
+use Rattle.std.specs.Prelude.{Err, Ok, Option, Result}
+use Rattle.pdus.specs.declared.Span.{Span}
 
 -- bits that stand at a place, at another name for the place after them
 pub stands_at : (l : List ℕ) (at next m : ℕ) (bs : List ℕ) → next ≡ m → Stands l at bs next → Stands l at bs m
@@ -58,12 +55,12 @@ is_there (given l) = true
 
 pub record OptionalRead (l : List ℕ) (at next unit least most : ℕ) (o : Optional) : Type 0 where
   pub n : ℕ
-  pub read : optional_at l (is_there o) at unit least most ≡ Value n next
+  pub read : optional_at l (is_there o) at unit least most ≡ Ok (n, next)
   pub part : part_in l unit (part_at (is_there o) unit n next) ≡ o
 
 pub string_back : (l : List ℕ) (at next unit least most : ℕ) (items : List ℕ) → string_fits unit least most items ≡ true
     → Stands l at (string_bits unit items) next
-    → (string_at l at unit least most ≡ Value (length items / unit) next) × (items_in l unit (span_to unit (length items / unit) next) ≡ items)
+    → (string_at l at unit least most ≡ Ok (length items / unit, next)) × (items_in l unit (span_to unit (length items / unit) next) ≡ items)
 unfolding string_bits
 string_back l at next unit least most items h s =
     let n : ℕ = length items / unit in
@@ -83,13 +80,13 @@ unfolding optional_fits optional_bits optional_at part_at part_in is_there
 optional_written l at next unit least most absent h s =
     let p = s.place in
     let e : at ≡ next = omega arith in
-    record { n = 0; read = ap (λ (x : ℕ). Value 0 x) e; part = refl }
+    record { n = 0; read = ap (λ (x : ℕ). Ok (0, x)) e; part = refl }
 optional_written l at next unit least most (given items) h s =
     let b = string_back l at next unit least most items h s in
     record { n = length items / unit; read = b.0; part = ap given b.1 }
 
 -- what was read says that it has shape, and that its bits stand there
-record OptionalIs (l : List ℕ) (at next unit least most : ℕ) (there : Bool) (p : Part) : Type 0 where
+record OptionalIs (l : List ℕ) (at next unit least most : ℕ) (there : Bool) (p : Option Span) : Type 0 where
   placed_fits : part_fits l unit least most p ≡ true
   stands : Stands l at (optional_bits unit (part_in l unit p)) next
   bit : presence (part_in l unit p) ≡ cond there 1 0
@@ -99,7 +96,7 @@ pub record ItemsIs (l : List ℕ) (at next unit least most n : ℕ) : Type 0 whe
   pub stands : Stands l at (string_bits unit (items_in l unit (span_to unit n next))) next
 
 pub items_read : (l : List ℕ) (at next unit least most n : ℕ) → Bits l → 0 < unit
-    → string_at l at unit least most ≡ Value n next → ItemsIs l at next unit least most n
+    → string_at l at unit least most ≡ Ok (n, next) → ItemsIs l at next unit least most n
 items_read l at next unit least most n b pos e =
     let i = string_read l at unit least most n next b e in
     let p = i.from in
@@ -113,13 +110,13 @@ items_read l at next unit least most n b pos e =
     record { placed_fits = fits_items l unit least most (span_to unit n next) (record { fits = i.count; held = h }); stands = rw q s }
 
 optional_read : (l : List ℕ) (at next unit least most n : ℕ) (t : Bool) → Bits l → 0 < unit → at ≤ length l
-    → optional_at l t at unit least most ≡ Value n next → OptionalIs l at next unit least most t (part_at t unit n next)
+    → optional_at l t at unit least most ≡ Ok (n, next) → OptionalIs l at next unit least most t (part_at t unit n next)
 unfolding optional_at part_at part_in optional_bits part_fits
 optional_read l at next unit least most n true b pos h e =
     let i = items_read l at next unit least most n b pos e in
     record { placed_fits = i.placed_fits; stands = i.stands; bit = refl }
 optional_read l at next unit least most n false b pos h e =
-    let p : at ≡ next = cc in
+    let p : at ≡ next = ok_place e in
     record { placed_fits = refl; stands = stands_at l at at next [] p (stands_none l at h); bit = refl }
 
 -- ---- message data
@@ -146,7 +143,7 @@ presence_fits (given x) (given y) = refl
 
 pub record DataRead (l : List ℕ) (at next : ℕ) (c : Content) : Type 0 where
   pub parts : Data
-  pub read : data_at l at ≡ taken.Is parts next
+  pub read : data_at l at ≡ Ok (parts, next)
   pub content : content_in l l l parts ≡ c
 
 pub data_written : (l : List ℕ) (at next : ℕ) (c : Content) → content_fits c ≡ true → Stands l at (content_bits c) next → DataRead l at next c
@@ -184,13 +181,10 @@ data_written l at next c h s =
       content = rw (x.part, y.part, z.1);
     }
 
--- a value behind a field: the field had a value
-pub via : {A : Type 0} (R : Type 0) (up : Refusal → A) (o : A) (apart : (r : Refusal) → up r ≡ o → R) (f : Field) (k : ℕ → ℕ → A) → ((v m : ℕ) → f ≡ Value v m → k v m ≡ o → R) → onto up f k ≡ o → R
-via R up o apart (Value v m) k g e = g v m refl e
-via R up o apart (Refused r) k g e = apart r e
-
-refused_not : (R : Type 0) (d : Data) (next : ℕ) (r : Refusal) → taken.Refused r ≡ taken.Is d next → R
-refused_not R d next r e = never (cc)
+-- a value behind a reading: it had a value
+pub on_value : {A B : Type 0} (R : Type 0) (o : B) (f : Reading A) (k : A → ℕ → Result B Refusal) → ((v : A) (m : ℕ) → f ≡ Ok (v, m) → k v m ≡ Ok o → R) → then f k ≡ Ok o → R
+on_value R o (Ok (v, m)) k g e = g v m refl e
+on_value R o (Err r) k g e = never (cc)
 
 two_bits : (v : ℕ) → v < 4 → 2 * cond (leb 2 v) 1 0 + cond (eqb (v % 2) 1) 1 0 ≡ v
 two_bits zero h = refl
@@ -207,9 +201,9 @@ record PartsIs (l : List ℕ) (at next : ℕ) (i m : Bool) (d : Data) : Type 0 w
   end : root_end d ≡ next
 
 parts_made : (l : List ℕ) (at p q next n₁ n₂ n₃ : ℕ) (i m : Bool) → Bits l → at ≤ length l
-    → optional_at l i at octet identifier_least identifier_most ≡ Value n₁ p
-    → optional_at l m p bit 0 message_most ≡ Value n₂ q
-    → string_at l q bit 0 check_most ≡ Value n₃ next → PartsIs l at next i m (record { identifier = part_at i octet n₁ p; message = part_at m bit n₂ q; check = span_to bit n₃ next })
+    → optional_at l i at octet identifier_least identifier_most ≡ Ok (n₁, p)
+    → optional_at l m p bit 0 message_most ≡ Ok (n₂, q)
+    → string_at l q bit 0 check_most ≡ Ok (n₃, next) → PartsIs l at next i m (record { identifier = part_at i octet n₁ p; message = part_at m bit n₂ q; check = span_to bit n₃ next })
 unfolding data_fits
 parts_made l at p q next n₁ n₂ n₃ i m b h x y z =
     let X = optional_read l at p octet identifier_least identifier_most n₁ i b (omega arith) h x in
@@ -227,30 +221,27 @@ parts_made l at p q next n₁ n₂ n₃ i m b h x y z =
     }
 
 parts_read : (l : List ℕ) (at next : ℕ) (i m : Bool) (d : Data) → Bits l → at ≤ length l
-    → parts_at l at i m ≡ taken.Is d next → PartsIs l at next i m d
+    → parts_at l at i m ≡ Ok (d, next) → PartsIs l at next i m d
 unfolding parts_within
-parts_read l at next i m d b h e = via (PartsIs l at next i m d) taken.Refused (taken.Is d next)
-    (refused_not (PartsIs l at next i m d) d next) (optional_at l i at octet identifier_least identifier_most) _ first e
+parts_read l at next i m d b h e = on_value (PartsIs l at next i m d) (d, next) (optional_at l i at octet identifier_least identifier_most) _ first e
   where
-    third : (n₁ p n₂ q : ℕ) → optional_at l i at octet identifier_least identifier_most ≡ Value n₁ p
-        → optional_at l m p bit 0 message_most ≡ Value n₂ q → (n₃ k : ℕ) → string_at l q bit 0 check_most ≡ Value n₃ k
-        → taken.Is (record { identifier = part_at i octet n₁ p; message = part_at m bit n₂ q; check = span_to bit n₃ k }) k ≡ taken.Is d next → PartsIs l at next i m d
+    third : (n₁ p n₂ q : ℕ) → optional_at l i at octet identifier_least identifier_most ≡ Ok (n₁, p)
+        → optional_at l m p bit 0 message_most ≡ Ok (n₂, q) → (n₃ k : ℕ) → string_at l q bit 0 check_most ≡ Ok (n₃, k)
+        → ◌≡◌ {A = Reading Data} (Ok (record { identifier = part_at i octet n₁ p; message = part_at m bit n₂ q; check = span_to bit n₃ k }, k)) (Ok (d, next)) → PartsIs l at next i m d
     third n₁ p n₂ q x y n₃ k z w =
-        let u : k ≡ next = cc in
-        let v : record { identifier = part_at i octet n₁ p; message = part_at m bit n₂ q; check = span_to bit n₃ k } ≡ d = cc in
-        rw (← v, ← u) (parts_made l at p q k n₁ n₂ n₃ i m b h x y z)
+        let u : record { identifier = part_at i octet n₁ p; message = part_at m bit n₂ q; check = span_to bit n₃ k } ≡ d = ok_value w in
+        let j : k ≡ next = ok_place w in
+        rw (← u, ← j) (parts_made l at p q k n₁ n₂ n₃ i m b h x y z)
 
-    second : (n₁ p : ℕ) → optional_at l i at octet identifier_least identifier_most ≡ Value n₁ p → (n₂ q : ℕ)
-        → optional_at l m p bit 0 message_most ≡ Value n₂ q
-        → onto taken.Refused (string_at l q bit 0 check_most) (λ (n k : ℕ). taken.Is (record { identifier = part_at i octet n₁ p; message = part_at m bit n₂ q; check = span_to bit n k }) k) ≡ taken.Is d next → PartsIs l at next i m d
-    second n₁ p x n₂ q y w = via (PartsIs l at next i m d) taken.Refused (taken.Is d next)
-        (refused_not (PartsIs l at next i m d) d next) (string_at l q bit 0 check_most) _ (third n₁ p n₂ q x y) w
+    second : (n₁ p : ℕ) → optional_at l i at octet identifier_least identifier_most ≡ Ok (n₁, p) → (n₂ q : ℕ)
+        → optional_at l m p bit 0 message_most ≡ Ok (n₂, q)
+        → then {B = Data × ℕ} (string_at l q bit 0 check_most) (λ (n k : ℕ). Ok (record { identifier = part_at i octet n₁ p; message = part_at m bit n₂ q; check = span_to bit n k }, k)) ≡ Ok (d, next) → PartsIs l at next i m d
+    second n₁ p x n₂ q y w = on_value (PartsIs l at next i m d) (d, next) (string_at l q bit 0 check_most) _ (third n₁ p n₂ q x y) w
 
-    first : (n₁ p : ℕ) → optional_at l i at octet identifier_least identifier_most ≡ Value n₁ p
-        → onto taken.Refused (optional_at l m p bit 0 message_most) (λ (n₂ q : ℕ). onto taken.Refused (string_at l q bit 0 check_most) (λ (n k : ℕ). taken.Is (record { identifier = part_at i octet n₁ p; message = part_at m bit n₂ q; check = span_to bit n k }) k)) ≡ taken.Is d next
+    first : (n₁ p : ℕ) → optional_at l i at octet identifier_least identifier_most ≡ Ok (n₁, p)
+        → then {B = Data × ℕ} (optional_at l m p bit 0 message_most) (λ (n₂ q : ℕ). then (string_at l q bit 0 check_most) (λ (n k : ℕ). Ok (record { identifier = part_at i octet n₁ p; message = part_at m bit n₂ q; check = span_to bit n k }, k))) ≡ Ok (d, next)
         → PartsIs l at next i m d
-    first n₁ p x w = via (PartsIs l at next i m d) taken.Refused (taken.Is d next)
-        (refused_not (PartsIs l at next i m d) d next) (optional_at l m p bit 0 message_most) _ (second n₁ p x) w
+    first n₁ p x w = on_value (PartsIs l at next i m d) (d, next) (optional_at l m p bit 0 message_most) _ (second n₁ p x) w
 
 -- What was read says: it is within the sizes; the extension bit, `mark`, stands first; the root stands behind it; and behind the root nothing, or additions.
 pub record DataIs (l : List ℕ) (at next : ℕ) (d : Data) : Type 0 where
@@ -260,7 +251,7 @@ pub record DataIs (l : List ℕ) (at next : ℕ) (d : Data) : Type 0 where
   pub extension : Stands l at (bits_n 1 mark) (at + 1)
   pub root : Stands l (at + 1) (root_bits (content_in l l l d)) (root_end d)
   pub added : ℕ
-  pub behind : cond (eqb mark 0) (Value 0 (root_end d)) (additions_at l (root_end d)) ≡ Value added next
+  pub behind : cond (eqb mark 0) (Ok (0, root_end d)) (additions_at l (root_end d)) ≡ Ok (added, next)
 
 -- a bit that stands at a place
 bit_there : (l : List ℕ) (at b next : ℕ) → b < 2 → Stands l at (bits_n 1 b) next → get_or l at 0 ≡ b
@@ -284,14 +275,14 @@ pub data_plain : (l : List ℕ) (at next : ℕ) (d : Data) (i : DataIs l at next
 unfolding content_bits
 data_plain l at next d i z =
     let x = i.behind in
-    let y : Value 0 (root_end d) ≡ Value i.added next = rw (z) at x in
-    let e : root_end d ≡ next = cc in
+    let y : Ok (0, root_end d) ≡ Ok (i.added, next) = rw (z) at x in
+    let e : root_end d ≡ next = ok_place y in
     let w : Stands l at (bits_n 1 0) (at + 1) = subst (λ (m : ℕ). Stands l at (bits_n 1 m) (at + 1)) z i.extension in
     stands_at l at (root_end d) next _ e (stands_join l at (at + 1) (root_end d) (bits_n 1 0) (root_bits (content_in l l l d)) w i.root)
 
 data_made : (l : List ℕ) (at p q v e next n added : ℕ) (d : Data) → v < 4 → e < 2 → Stands l at (bits_n 1 e) p
     → Stands l p (bits_n 2 v) q → PartsIs l q n (leb 2 v) (eqb (v % 2) 1) d
-    → cond (eqb e 0) (Value 0 n) (additions_at l n) ≡ Value added next → DataIs l at next d
+    → cond (eqb e 0) (Ok (0, n)) (additions_at l n) ≡ Ok (added, next) → DataIs l at next d
 unfolding content_in
 data_made l at p q v e next n added d h low s t i k =
     let c = i.bits ∙ two_bits v h in
@@ -306,45 +297,44 @@ data_made l at p q v e next n added d h low s t i k =
       extension = stands_at l at p (at + 1) (bits_n 1 e) a s;
       root = subst (λ (x : ℕ). Stands l x (root_bits (content_in l l l d)) (root_end d)) a (stands_at l p n (root_end d) _ f w);
       added = added;
-      behind = subst (λ (x : ℕ). cond (eqb e 0) (Value 0 x) (additions_at l x) ≡ Value added next) f k;
+      behind = subst (λ (x : ℕ). cond (eqb e 0) (Ok (0, x)) (additions_at l x) ≡ Ok (added, next)) f k;
     }
 
 -- the two ways behind the fields
-pub record Behind (l : List ℕ) (e next : ℕ) (t : Taken) (d : Data) : Type 0 where
+pub record Behind (l : List ℕ) (e next : ℕ) (t : Reading Data) (d : Data) : Type 0 where
   pub place : ℕ
   pub added : ℕ
-  pub parts : t ≡ taken.Is d place
-  pub rest : cond (eqb e 0) (Value 0 place) (additions_at l place) ≡ Value added next
+  pub parts : t ≡ Ok (d, place)
+  pub rest : cond (eqb e 0) (Ok (0, place)) (additions_at l place) ≡ Ok (added, next)
 
-pub behind_read : (l : List ℕ) (e next : ℕ) (t : Taken) (d : Data)
-    → cond (eqb e 0) t (with_additions l t) ≡ taken.Is d next → Behind l e next t d
+pub behind_read : (l : List ℕ) (e next : ℕ) (t : Reading Data) (d : Data)
+    → cond (eqb e 0) t (with_additions l t) ≡ Ok (d, next) → Behind l e next t d
 unfolding with_additions
 behind_read l e next t d k = by (eqb e 0) refl t refl k
   where
-    more : (x : Bool) → eqb e 0 ≡ x → x ≡ false → (f : Data) (n : ℕ) → t ≡ taken.Is f n → (z : Field)
-        → additions_at l n ≡ z → onto taken.Refused z (λ (v after : ℕ). taken.Is f after) ≡ taken.Is d next
+    more : (x : Bool) → eqb e 0 ≡ x → x ≡ false → (f : Data) (n : ℕ) → t ≡ Ok (f, n) → (z : Reading ℕ)
+        → additions_at l n ≡ z → then {B = Data × ℕ} z (λ (v after : ℕ). Ok (f, after)) ≡ Ok (d, next)
         → Behind l e next t d
-    more x p q f n u (Value v after) y w =
-        let a : f ≡ d = cc in
-        let b : after ≡ next = cc in
-        record { place = n; added = v; parts = u ∙ ap (λ (g : Data). taken.Is g n) a; rest = rw (p, q) (y ∙ ap (Value v) b) }
-    more x p q f n u (Refused r) y w = never (cc)
+    more x p q f n u (Ok (v, after)) y w =
+        let a : f ≡ d = ok_value w in
+        let b : after ≡ next = ok_place w in
+        record { place = n; added = v; parts = u ∙ ap (λ (g : Data). Ok (g, n)) a; rest = rw (p, q) (y ∙ ap (λ (place : ℕ). Ok (v, place)) b) }
+    more x p q f n u (Err r) y w = never (cc)
 
-    by : (x : Bool) → eqb e 0 ≡ x → (u : Taken) → t ≡ u
-        → cond x u (on_taken u (λ (f : Data) (n : ℕ). onto taken.Refused (additions_at l n) (λ (v after : ℕ). taken.Is f after))) ≡ taken.Is d next
+    by : (x : Bool) → eqb e 0 ≡ x → (u : Reading Data) → t ≡ u
+        → cond x u (then u (λ (f : Data) (n : ℕ). then (additions_at l n) (λ (v after : ℕ). Ok (f, after)))) ≡ Ok (d, next)
         → Behind l e next t d
     by true p u q w = record { place = next; added = 0; parts = q ∙ w; rest = rw p }
-    by false p (taken.Is f n) q w = more false p refl f n q (additions_at l n) refl w
-    by false p (taken.Refused r) q w = never (cc)
+    by false p (Ok (f, n)) q w = more false p refl f n q (additions_at l n) refl w
+    by false p (Err r) q w = never (cc)
 
-pub data_read : (l : List ℕ) (at next : ℕ) (d : Data) → Bits l → data_at l at ≡ taken.Is d next → DataIs l at next d
+pub data_read : (l : List ℕ) (at next : ℕ) (d : Data) → Bits l → data_at l at ≡ Ok (d, next) → DataIs l at next d
 unfolding data_within
-data_read l at next d b e = via (DataIs l at next d) taken.Refused (taken.Is d next)
-    (refused_not (DataIs l at next d) d next) (bit_field l at 1) _ first e
+data_read l at next d b e = on_value (DataIs l at next d) (d, next) (bit_field l at 1) _ first e
   where
-    second : (x p : ℕ) → bit_field l at 1 ≡ Value x p → (v q : ℕ) → bit_field l p 2 ≡ Value v q
+    second : (x p : ℕ) → bit_field l at 1 ≡ Ok (x, p) → (v q : ℕ) → bit_field l p 2 ≡ Ok (v, q)
         → cond (eqb x 0) (parts_at l q (leb 2 v) (eqb (v % 2) 1))
-        (with_additions l (parts_at l q (leb 2 v) (eqb (v % 2) 1))) ≡ taken.Is d next → DataIs l at next d
+        (with_additions l (parts_at l q (leb 2 v) (eqb (v % 2) 1))) ≡ Ok (d, next) → DataIs l at next d
     second x p f v q g w =
         let s = (bit_field_is 1).read_written l at x p b f in
         let t = (bit_field_is 2).read_written l p v q b g in
@@ -356,8 +346,8 @@ data_read l at next d b e = via (DataIs l at next d) taken.Refused (taken.Is d n
         data_made l at p q v x next k.place k.added d (omega arith) (omega arith) s t
         (parts_read l q k.place (leb 2 v) (eqb (v % 2) 1) d b (omega arith) k.parts) k.rest
 
-    first : (x p : ℕ) → bit_field l at 1 ≡ Value x p
-        → onto taken.Refused (bit_field l p 2) (λ (v q : ℕ). cond (eqb x 0) (parts_at l q (leb 2 v) (eqb (v % 2) 1))
-        (with_additions l (parts_at l q (leb 2 v) (eqb (v % 2) 1)))) ≡ taken.Is d next → DataIs l at next d
-    first x p f w = via (DataIs l at next d) taken.Refused (taken.Is d next) (refused_not (DataIs l at next d) d next)
+    first : (x p : ℕ) → bit_field l at 1 ≡ Ok (x, p)
+        → then (bit_field l p 2) (λ (v q : ℕ). cond (eqb x 0) (parts_at l q (leb 2 v) (eqb (v % 2) 1))
+        (with_additions l (parts_at l q (leb 2 v) (eqb (v % 2) 1)))) ≡ Ok (d, next) → DataIs l at next d
+    first x p f w = on_value (DataIs l at next d) (d, next)
         (bit_field l p 2) _ (second x p f) w

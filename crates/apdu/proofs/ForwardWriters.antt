@@ -7,29 +7,29 @@ use Prim.Native.Nat.{ℕ, zero, suc, ◌+◌, ◌*◌, ◌/◌, ◌^◌, ◌≤�
 use native.Mathlib.Omega.{arith}
 use native.Mathlib.Decide.{dec_lt}
 use native.Mathlib.Numerals.{unary_clauses}
-use borrow.Author.Tests.{le-leb, lt-ltb, le-ltb, leb-true, ltb-true}
+use borrow.Author.Tests.{le-leb, lt-leb, lt-ltb, le-ltb, leb-true, ltb-true}
 use lib.Dec.{leb, ltb}
 use lib.ListN.{length, length-append}
 use lib.Pow.{pow_mono}
 use Rattle.words.proofs.Laws.{both_left, both_right}
 use Rattle.bits.specs.Bits.{bits_n, bits_to}
 use Rattle.bits.specs.Put.{Left, left, put_run, put_if, put_number}
-use Rattle.bits.specs.declared.Put.{Put}
 use Rattle.bits.proofs.Putting.{put_if_yes}
 use Rattle.fields.specs.Fields.{digits_in, width_of}
 use Rattle.fields.specs.Encodings.{bits_fit, whole_bits, whole_fits}
 use Rattle.fields.proofs.Widths.{width_within}
 use Rattle.apdu.specs.Sizes.{all_bits, message_most, length_most, bit}
-use Rattle.apdu.specs.Headings.{date_from, date_to, time_from, time_to, characters_least, characters_most, character, address_bits, direction_last, triple_bits, triple_fits, aircraft_bits, aircraft_fits, heading_bits, heading_fits}
+use Rattle.apdu.specs.Headings.{date_from, date_to, time_from, time_to, characters_least, characters_most, character, address_bits, direction_last, triple_bits, triple_fits, aircraft_bits, heading_bits, heading_fits}
 use Rattle.apdu.specs.Pdus.{items_in}
 use Rattle.apdu.specs.Encoding.{string_bits, forward_bits}
-use Rattle.apdu.specs.Writing.{items_fit, forward_fits, place_of}
+use Rattle.apdu.specs.Writing.{items_fit, forward_fits, Goes, place_of}
 use Rattle.pdus.specs.declared.Span.{Span}
 use Rattle.apdu.specs.declared.Triple.{Triple}
 use Rattle.apdu.specs.declared.Heading.{Heading}
 use Rattle.apdu.specs.declared.Forward.{Forward}
 use Rattle.apdu.proofs.Heads.{heading_fits_is}
-use Rattle.apdu.proofs.Writers.{On, put_on, number_run, Goes, placed, behind, room_behind, same_bits, unled, wider}
+use Rattle.apdu.proofs.Writers.{On, put_on, number_run, placed, behind, room_behind, same_bits, unled, wider}
+use Rattle.std.specs.Prelude.{Option}
 
 -- a whole number in its range
 whole_run : (s : List ℕ) (o : Left) (at lo hi v : ℕ) → whole_fits lo hi v ≡ true
@@ -43,7 +43,7 @@ held_run s o at n v f p = number_run s o all_bits at n v (leb-true n 64 (both_le
 
 -- ---- three whole numbers
 
-pub triple_put : (s z₁ z₂ : List ℕ) (o : Left) (at p₁ p₂ : ℕ) (r₁ r₂ : Put) (lo hi v : Triple)
+pub triple_put : (s z₁ z₂ : List ℕ) (o : Left) (at p₁ p₂ : ℕ) (r₁ r₂ : Option ℕ) (lo hi v : Triple)
     → triple_fits lo hi v ≡ true → at + length (triple_bits lo hi v) ≤ length (bits_to s all_bits)
     → left r₁ z₁ ≡ put_if (whole_fits lo.first hi.first v.first) s all_bits at
     (whole_bits lo.first hi.first v.first) → p₁ ≡ place_of r₁
@@ -76,7 +76,7 @@ front_room s at xs ys h =
     omega arith
 
 -- the aircraft, and the index
-pub aircraft_put : (s z₃ z₄ z₅ : List ℕ) (o : Left) (at p₃ p₄ p₅ : ℕ) (r₃ r₄ r₅ : Put) (h : Heading)
+pub aircraft_put : (s z₃ z₄ z₅ : List ℕ) (o : Left) (at p₃ p₄ p₅ : ℕ) (r₃ r₄ r₅ : Option ℕ) (h : Heading)
     → heading_fits h ≡ true → at + length (aircraft_bits h) ≤ length (bits_to s all_bits)
     → left r₃ z₃ ≡ put_if (whole_fits characters_least characters_most h.characters) s all_bits at
     (whole_bits characters_least characters_most h.characters) → p₃ ≡ place_of r₃
@@ -113,7 +113,7 @@ module _ (s : List ℕ) (at : ℕ) (h : Heading) (fits : heading_fits h ≡ true
         (triple_bits time_from time_to h.time ++ aircraft_bits h) split_room,
   )
 
-  module _ (z₁ : List ℕ) (p₁ : ℕ) (r₁ : Put) (w₁ : left r₁ z₁ ≡ put_run s all_bits at (triple_bits date_from date_to h.date)) (q₁ : p₁ ≡ place_of r₁) where
+  module _ (z₁ : List ℕ) (p₁ : ℕ) (r₁ : Option ℕ) (w₁ : left r₁ z₁ ≡ put_run s all_bits at (triple_bits date_from date_to h.date)) (q₁ : p₁ ≡ place_of r₁) where
     dated : On s z₁ all_bits at p₁ (triple_bits date_from date_to h.date) (triple_bits time_from time_to h.time ++ aircraft_bits h)
     dated = put_on s z₁ all_bits at p₁ (triple_bits date_from date_to h.date)
         (triple_bits time_from time_to h.time ++ aircraft_bits h) r₁ split_room w₁ q₁
@@ -122,7 +122,7 @@ module _ (s : List ℕ) (at : ℕ) (h : Heading) (fits : heading_fits h ≡ true
         (p₁ + length (triple_bits time_from time_to h.time) ≤ length (bits_to z₁ all_bits))
     time_asks = ((heading_fits_is h fits).time, front_room z₁ p₁ (triple_bits time_from time_to h.time) (aircraft_bits h) dated.room)
 
-    module _ (z₂ : List ℕ) (p₂ : ℕ) (r₂ : Put) (w₂ : left r₂ z₂ ≡ put_run z₁ all_bits p₁ (triple_bits time_from time_to h.time)) (q₂ : p₂ ≡ place_of r₂) where
+    module _ (z₂ : List ℕ) (p₂ : ℕ) (r₂ : Option ℕ) (w₂ : left r₂ z₂ ≡ put_run z₁ all_bits p₁ (triple_bits time_from time_to h.time)) (q₂ : p₂ ≡ place_of r₂) where
       timed : On z₁ z₂ all_bits p₁ p₂ (triple_bits time_from time_to h.time) (aircraft_bits h)
       timed = put_on z₁ z₂ all_bits p₁ p₂ (triple_bits time_from time_to h.time) (aircraft_bits h) r₂ dated.room w₂ q₂
 
@@ -157,7 +157,7 @@ module _ (s lm : List ℕ) (at : ℕ) (f : Forward) (placed_fits : forward_fits 
   message_fits = wider lm bit 0 message_most f.message
       (both_right (heading_fits f.heading) (items_fit lm bit 0 message_most f.message) placed_fits)
 
-  module _ (y : List ℕ) (p : ℕ) (r : Put) (w : left r y ≡ put_run s all_bits at (heading_bits f.heading)) (q : p ≡ place_of r) where
+  module _ (y : List ℕ) (p : ℕ) (r : Option ℕ) (w : left r y ≡ put_run s all_bits at (heading_bits f.heading)) (q : p ≡ place_of r) where
     headed : Goes s y at p (heading_bits f.heading)
     headed = placed s y at p (heading_bits f.heading) r heading_asks.1 w q
 
@@ -202,26 +202,11 @@ holds_digits n v h k =
     let b : 2 ^ width_of v ≤ 2 ^ n = pow_mono {i = width_of v} {j = n} k in
     rw (le-leb n 64 (omega arith), lt-ltb v (2 ^ n) (omega arith))
 
-module _ (h : Heading) (n : whole_fits characters_least characters_most h.characters ≡ true) where
-  pub few : h.characters ≤ 8
-  few = leb-true h.characters characters_most (both_right (leb characters_least h.characters) (leb h.characters characters_most) n)
-
-  pub name_long : (w : ℕ) → w ≡ width_of h.flight → character * h.characters < w → false ≡ aircraft_fits h
-  unfolding aircraft_fits
-  name_long w e k = rw (n, too_wide (character * h.characters) h.flight (omega (arith, few)) (rw e at k))
-
-  module _ (w : ℕ) (e : w ≡ width_of h.flight) (k : w ≤ character * h.characters) where
-    named : bits_fit (character * h.characters) h.flight ≡ true
-    named = holds_digits (character * h.characters) h.flight (omega (arith, few)) (rw e at k)
-
-    pub address_large : 16777216 ≤ h.address → false ≡ aircraft_fits h
-    unfolding aircraft_fits
-    address_large a = rw (n, named, le-ltb h.address (2 ^ 24) (omega arith))
-
-    pub direction_left : h.address < 16777216 → leb h.direction direction_last ≡ aircraft_fits h
-    unfolding aircraft_fits
-    direction_left a = rw (n, named, lt-ltb h.address (2 ^ 24) (omega arith), le-leb 0 h.direction (omega arith))
-
-pub no_aircraft : (h : Heading) → whole_fits characters_least characters_most h.characters ≡ false → false ≡ aircraft_fits h
-unfolding aircraft_fits
-no_aircraft h n = rw n
+pub bits_held : (n v : ℕ) → n < 64 → leb (width_of v) n ≡ bits_fit n v
+bits_held n v h =
+    elim (dec_lt n (width_of v)) [
+      | yes k ↦ rw (lt-leb (width_of v) n k, too_wide n v h k)
+      | no k ↦
+          let m : width_of v ≤ n = omega arith in
+          rw (le-leb (width_of v) n m, holds_digits n v h m)
+    ]

@@ -1,7 +1,7 @@
--- A forward message: its readers' ways out as the code has them; what is written reads back as it was, and what is read writes back to the same bits.
+-- A forward message: what is written reads back as it was, and what is read writes back to the same bits.
 -- Three whole numbers in a row are shown once, over their ranges.
 -- Assumes nothing.
-use mathlib.Core.Path.{◌≡◌, refl, ap, sym, ◌∙◌}
+use mathlib.Core.Path.{◌≡◌, refl}
 use mathlib.Core.Bool.{Bool, true, false, ◌&&◌}
 use mathlib.Core.List.{List, ◌++◌}
 use Prim.Native.Nat.{ℕ, ◌+◌, ◌*◌, ◌/◌, ◌^◌, ◌≤◌, ◌<◌}
@@ -9,61 +9,29 @@ use native.Mathlib.Omega.{arith}
 use borrow.Author.Tests.{leb-true}
 use lib.Dec.{leb}
 use lib.ListN.{length}
-use Rattle.words.proofs.Laws.{both_left, both_right}
+use Rattle.words.proofs.Laws.{both_left, both_right, ok_value, ok_place}
 use Rattle.bits.specs.Bits.{bits_n}
 use Rattle.bits.proofs.Numbers.{Bits, bits_bits_n}
 use Rattle.bits.proofs.Bytes.{bits_append}
-use Rattle.fields.specs.Fields.{bit_field, whole_number, string_at, onto}
+use Rattle.fields.specs.Fields.{Reading, bit_field, whole_number, string_at, then}
 use Rattle.fields.specs.Encodings.{whole_bits, whole_fits}
-use Rattle.fields.specs.declared.Refusal.{Refusal}
-use Rattle.fields.specs.declared.Field.TheVariants.{Value}
 use Rattle.fields.proofs.RoundTrip.{Stands, stands_join, stands_split, bit_field_is, whole_number_is}
 use Rattle.apdu.specs.Sizes.{message_most, bit}
 use Rattle.apdu.specs.Headings.{triple, date_from, date_to, time_from, time_to, characters_least, characters_most, character, address_bits, direction_last, triple_bits, triple_fits, aircraft_bits, heading_bits, heading_fits}
 use Rattle.apdu.specs.Pdus.{items_in}
 use Rattle.apdu.specs.Encoding.{string_bits, string_fits, forward_bits, forward_pdu_fits}
-use Rattle.apdu.specs.Reading.{on_triple, on_heading, on_forward, triple_refusal, heading_refusal, forward_refusal, span_to, triple_at, heading_at, forward_within, forward_at}
+use Rattle.apdu.specs.Reading.{span_to, triple_at, heading_at, forward_within, forward_at}
 use Rattle.apdu.specs.Writing.{forward_fits}
 use Rattle.apdu.specs.declared.Triple.{Triple}
 use Rattle.apdu.specs.declared.Heading.{Heading}
 use Rattle.apdu.specs.declared.Forward.{Forward}
-use Rattle.apdu.specs.declared.Triples.{Triples}
-use Rattle.apdu.specs.declared.Triples.TheVariants as triples
-use Rattle.apdu.specs.declared.Headed.{Headed}
-use Rattle.apdu.specs.declared.Headed.TheVariants as headed
-use Rattle.apdu.specs.declared.Forwarded.{Forwarded}
-use Rattle.apdu.specs.declared.Forwarded.TheVariants as forwarded
 use Rattle.apdu.proofs.Heads.{heading_fits_is, fits_heading}
-use Rattle.apdu.proofs.Bounds.{never}
-use Rattle.apdu.proofs.Contents.{via, string_back, items_read}
-
--- ---- ways out
-
-pub triple_handed : (t u : Triples) (r x : Refusal) (k : Triple → ℕ → Headed) → t ≡ u → t ≡ triples.Refused r
-    → x ≡ triple_refusal t → headed.Refused x ≡ on_triple u k
-triple_handed t u r x k p q h = ap headed.Refused (h ∙ ap triple_refusal q) ∙ ap (λ (y : Triples). on_triple y k) (sym q ∙ p)
-
-pub triple_went : (t u : Triples) (o : Headed) (v : Triple) (n : ℕ) (k : Triple → ℕ → Headed) → t ≡ u
-    → t ≡ triples.Is v n → o ≡ k v n → o ≡ on_triple u k
-triple_went t u o v n k p q h = h ∙ ap (λ (y : Triples). on_triple y k) (sym q ∙ p)
-
-pub heading_handed : (t u : Headed) (r x : Refusal) (k : Heading → ℕ → Forwarded) → t ≡ u → t ≡ headed.Refused r
-    → x ≡ heading_refusal t → forwarded.Refused x ≡ on_heading u k
-heading_handed t u r x k p q h = ap forwarded.Refused (h ∙ ap heading_refusal q) ∙ ap (λ (y : Headed). on_heading y k) (sym q ∙ p)
-
-pub heading_went : (t u : Headed) (o : Forwarded) (v : Heading) (n : ℕ) (k : Heading → ℕ → Forwarded) → t ≡ u
-    → t ≡ headed.Is v n → o ≡ k v n → o ≡ on_heading u k
-heading_went t u o v n k p q h = h ∙ ap (λ (y : Headed). on_heading y k) (sym q ∙ p)
-
-pub forward_handed : {A : Type 0} (up : Refusal → A) (t u : Forwarded) (r x : Refusal) (k : Forward → ℕ → A) → t ≡ u → t ≡ forwarded.Refused r → x ≡ forward_refusal t → up x ≡ on_forward up u k
-forward_handed up t u r x k p q h = ap up (h ∙ ap forward_refusal q) ∙ ap (λ (y : Forwarded). on_forward up y k) (sym q ∙ p)
-
-pub forward_went : {A : Type 0} (up : Refusal → A) (t u : Forwarded) (o : A) (v : Forward) (n : ℕ) (k : Forward → ℕ → A) → t ≡ u → t ≡ forwarded.Is v n → o ≡ k v n → o ≡ on_forward up u k
-forward_went up t u o v n k p q h = h ∙ ap (λ (y : Forwarded). on_forward up y k) (sym q ∙ p)
+use Rattle.apdu.proofs.Contents.{on_value, string_back, items_read}
+use Rattle.std.specs.Prelude.{Ok}
 
 -- the count of characters that was read is one that there is
 pub characters_few : (l : List ℕ) (at n next : ℕ) → Bits l
-    → whole_number l at characters_least characters_most ≡ Value n next → n ≤ characters_most
+    → whole_number l at characters_least characters_most ≡ Ok (n, next) → n ≤ characters_most
 characters_few l at n next b e =
     leb-true n characters_most (both_right (leb characters_least n) (leb n characters_most)
     ((whole_number_is characters_least characters_most (omega arith)).read_fits l at n next b e))
@@ -89,7 +57,7 @@ module _ (lo hi : Triple) (small : Small hi) where
       ((whole_number_is lo.third hi.third small.three).are_bits v.third))
 
   pub triple_written : (l : List ℕ) (at : ℕ) (v : Triple) (next : ℕ) → triple_fits lo hi v ≡ true
-      → Stands l at (triple_bits lo hi v) next → triple_at l at lo hi ≡ triples.Is v next
+      → Stands l at (triple_bits lo hi v) next → triple_at l at lo hi ≡ Ok (v, next)
   unfolding triple_fits triple_bits triple_at
   triple_written l at v next h s =
       let f₁ : Bool = whole_fits lo.first hi.first v.first in
@@ -109,9 +77,9 @@ module _ (lo hi : Triple) (small : Small hi) where
       v.third next (both_right f₂ f₃ g) s₂.second in
       rw (x, y, z)
 
-  triple_made : (l : List ℕ) (at p q next x y z : ℕ) → Bits l → whole_number l at lo.first hi.first ≡ Value x p
-      → whole_number l p lo.second hi.second ≡ Value y q
-      → whole_number l q lo.third hi.third ≡ Value z next → TripleIs lo hi l at (triple x y z) next
+  triple_made : (l : List ℕ) (at p q next x y z : ℕ) → Bits l → whole_number l at lo.first hi.first ≡ Ok (x, p)
+      → whole_number l p lo.second hi.second ≡ Ok (y, q)
+      → whole_number l q lo.third hi.third ≡ Ok (z, next) → TripleIs lo hi l at (triple x y z) next
   unfolding triple_fits triple_bits
   triple_made l at p q next x y z b e f g =
       record {
@@ -127,39 +95,30 @@ module _ (lo hi : Triple) (small : Small hi) where
             ((whole_number_is lo.third hi.third small.three).read_written l q z next b g));
       }
 
-  pub triple_read : (l : List ℕ) (at : ℕ) (v : Triple) (next : ℕ) → Bits l → triple_at l at lo hi ≡ triples.Is v next
+  pub triple_read : (l : List ℕ) (at : ℕ) (v : Triple) (next : ℕ) → Bits l → triple_at l at lo hi ≡ Ok (v, next)
       → TripleIs lo hi l at v next
   unfolding triple_at
-  triple_read l at v next b e = via R triples.Refused (triples.Is v next) apart (whole_number l at lo.first hi.first) _ first e
+  triple_read l at v next b e = on_value (TripleIs lo hi l at v next) (v, next) (whole_number l at lo.first hi.first) _ first e
     where
-      R : Type 0
-      R = TripleIs lo hi l at v next
-
-      apart : (r : Refusal) → triples.Refused r ≡ triples.Is v next → TripleIs lo hi l at v next
-      apart r k = never (cc)
-
-      third : (x p y q : ℕ) → whole_number l at lo.first hi.first ≡ Value x p
-          → whole_number l p lo.second hi.second ≡ Value y q → (z n : ℕ)
-          → whole_number l q lo.third hi.third ≡ Value z n → triples.Is (triple x y z) n ≡ triples.Is v next
+      third : (x p y q : ℕ) → whole_number l at lo.first hi.first ≡ Ok (x, p)
+          → whole_number l p lo.second hi.second ≡ Ok (y, q) → (z n : ℕ)
+          → whole_number l q lo.third hi.third ≡ Ok (z, n) → ◌≡◌ {A = Reading Triple} (Ok (triple x y z, n)) (Ok (v, next))
           → TripleIs lo hi l at v next
       third x p y q e₁ e₂ z n e₃ k =
-          let u : triple x y z ≡ v = cc in
-          let w : n ≡ next = cc in
+          let u : triple x y z ≡ v = ok_value k in
+          let w : n ≡ next = ok_place k in
           rw (← u, ← w) (triple_made l at p q n x y z b e₁ e₂ e₃)
 
-      second : (x p : ℕ) → whole_number l at lo.first hi.first ≡ Value x p → (y q : ℕ)
-          → whole_number l p lo.second hi.second ≡ Value y q
-          → onto triples.Refused (whole_number l q lo.third hi.third) (λ (z n : ℕ). triples.Is (triple x y z) n) ≡
-          triples.Is v next → TripleIs lo hi l at v next
-      second x p e₁ y q e₂ k = via (TripleIs lo hi l at v next) triples.Refused (triples.Is v next) apart
-          (whole_number l q lo.third hi.third) _ (third x p y q e₁ e₂) k
+      second : (x p : ℕ) → whole_number l at lo.first hi.first ≡ Ok (x, p) → (y q : ℕ)
+          → whole_number l p lo.second hi.second ≡ Ok (y, q)
+          → then {B = Triple × ℕ} (whole_number l q lo.third hi.third) (λ (z n : ℕ). Ok (triple x y z, n)) ≡
+          Ok (v, next) → TripleIs lo hi l at v next
+      second x p e₁ y q e₂ k = on_value (TripleIs lo hi l at v next) (v, next) (whole_number l q lo.third hi.third) _ (third x p y q e₁ e₂) k
 
-      first : (x p : ℕ) → whole_number l at lo.first hi.first ≡ Value x p
-          → onto triples.Refused (whole_number l p lo.second hi.second) (λ (y q : ℕ). onto triples.Refused
-          (whole_number l q lo.third hi.third) (λ (z n : ℕ). triples.Is (triple x y z) n)) ≡ triples.Is v
-          next → TripleIs lo hi l at v next
-      first x p e₁ k = via (TripleIs lo hi l at v next) triples.Refused (triples.Is v next) apart
-          (whole_number l p lo.second hi.second) _ (second x p e₁) k
+      first : (x p : ℕ) → whole_number l at lo.first hi.first ≡ Ok (x, p)
+          → then {B = Triple × ℕ} (whole_number l p lo.second hi.second) (λ (y q : ℕ). then
+          (whole_number l q lo.third hi.third) (λ (z n : ℕ). Ok (triple x y z, n))) ≡ Ok (v, next) → TripleIs lo hi l at v next
+      first x p e₁ k = on_value (TripleIs lo hi l at v next) (v, next) (whole_number l p lo.second hi.second) _ (second x p e₁) k
 
 date_small : Small date_to
 date_small = record { one = omega arith; two = omega arith; three = omega arith }
@@ -181,7 +140,7 @@ heading_are_bits h =
     )))
 
 pub heading_written : (l : List ℕ) (at : ℕ) (h : Heading) (next : ℕ) → heading_fits h ≡ true
-    → Stands l at (heading_bits h) next → heading_at l at ≡ headed.Is h next
+    → Stands l at (heading_bits h) next → heading_at l at ≡ Ok (h, next)
 unfolding heading_bits aircraft_bits heading_at
 heading_written l at h next e s =
     let f = heading_fits_is h e in
@@ -213,15 +172,10 @@ pub record HeadingIs (l : List ℕ) (at : ℕ) (h : Heading) (next : ℕ) : Type
   pub fits : heading_fits h ≡ true
   pub stands : Stands l at (heading_bits h) next
 
-via_triple : (R : Type 0) (h : Heading) (next : ℕ) (t : Triples) (k : Triple → ℕ → Headed)
-    → ((v : Triple) (m : ℕ) → t ≡ triples.Is v m → k v m ≡ headed.Is h next → R) → on_triple t k ≡ headed.Is h next → R
-via_triple R h next (triples.Is v m) k g e = g v m refl e
-via_triple R h next (triples.Refused r) k g e = never (cc)
-
 heading_made : (l : List ℕ) (at p q a b c next n x y z : ℕ) (d t : Triple) → Bits l
-    → triple_at l at date_from date_to ≡ triples.Is d p → triple_at l p time_from time_to ≡ triples.Is t q
-    → whole_number l q characters_least characters_most ≡ Value n a → bit_field l a (character * n) ≡ Value x b → bit_field l
-    b address_bits ≡ Value y c → whole_number l c 0 direction_last ≡ Value z next
+    → triple_at l at date_from date_to ≡ Ok (d, p) → triple_at l p time_from time_to ≡ Ok (t, q)
+    → whole_number l q characters_least characters_most ≡ Ok (n, a) → bit_field l a (character * n) ≡ Ok (x, b) → bit_field l
+    b address_bits ≡ Ok (y, c) → whole_number l c 0 direction_last ≡ Ok (z, next)
     → HeadingIs l at (record { date = d; time = t; characters = n; flight = x; address = y; direction = z }) next
 unfolding heading_bits aircraft_bits
 heading_made l at p q a b c next n x y z d t bl e₁ e₂ e₃ e₄ e₅ e₆ =
@@ -247,21 +201,18 @@ heading_made l at p q a b c next n x y z d t bl e₁ e₂ e₃ e₄ e₅ e₆ =
           ((whole_number_is 0 direction_last (omega arith)).read_written l c z next bl e₆)))));
     }
 
-pub heading_read : (l : List ℕ) (at : ℕ) (h : Heading) (next : ℕ) → Bits l → heading_at l at ≡ headed.Is h next → HeadingIs l at h next
+pub heading_read : (l : List ℕ) (at : ℕ) (h : Heading) (next : ℕ) → Bits l → heading_at l at ≡ Ok (h, next) → HeadingIs l at h next
 unfolding heading_at
 heading_read l at h next bl e =
-    via_triple (HeadingIs l at h next) h next (triple_at l at date_from date_to) _ (λ (d : Triple) (p : ℕ) (e₁ : triple_at l at date_from date_to ≡ triples.Is d p).
-    via_triple (HeadingIs l at h next) h next (triple_at l p time_from time_to) _ (λ (t : Triple) (q : ℕ) (e₂ : triple_at l p time_from time_to ≡ triples.Is t q).
-    via (HeadingIs l at h next) headed.Refused (headed.Is h next) apart (whole_number l q characters_least characters_most) _ (λ (n a : ℕ) (e₃ : whole_number l q characters_least characters_most ≡ Value n a).
-    via (HeadingIs l at h next) headed.Refused (headed.Is h next) apart (bit_field l a (character * n)) _ (λ (x b : ℕ) (e₄ : bit_field l a (character * n) ≡ Value x b).
-    via (HeadingIs l at h next) headed.Refused (headed.Is h next) apart (bit_field l b address_bits) _ (λ (y c : ℕ) (e₅ : bit_field l b address_bits ≡ Value y c).
-    via (HeadingIs l at h next) headed.Refused (headed.Is h next) apart (whole_number l c 0 direction_last) _ (λ (z m : ℕ) (e₆ : whole_number l c 0 direction_last ≡ Value z m) (k : headed.Is (record { date = d; time = t; characters = n; flight = x; address = y; direction = z }) m ≡ headed.Is h next).
-    let u : record { date = d; time = t; characters = n; flight = x; address = y; direction = z } ≡ h = cc in
-    let w : m ≡ next = cc in
+    on_value (HeadingIs l at h next) (h, next) (triple_at l at date_from date_to) _ (λ (d : Triple) (p : ℕ) (e₁ : triple_at l at date_from date_to ≡ Ok (d, p)).
+    on_value (HeadingIs l at h next) (h, next) (triple_at l p time_from time_to) _ (λ (t : Triple) (q : ℕ) (e₂ : triple_at l p time_from time_to ≡ Ok (t, q)).
+    on_value (HeadingIs l at h next) (h, next) (whole_number l q characters_least characters_most) _ (λ (n a : ℕ) (e₃ : whole_number l q characters_least characters_most ≡ Ok (n, a)).
+    on_value (HeadingIs l at h next) (h, next) (bit_field l a (character * n)) _ (λ (x b : ℕ) (e₄ : bit_field l a (character * n) ≡ Ok (x, b)).
+    on_value (HeadingIs l at h next) (h, next) (bit_field l b address_bits) _ (λ (y c : ℕ) (e₅ : bit_field l b address_bits ≡ Ok (y, c)).
+    on_value (HeadingIs l at h next) (h, next) (whole_number l c 0 direction_last) _ (λ (z m : ℕ) (e₆ : whole_number l c 0 direction_last ≡ Ok (z, m)) (k : ◌≡◌ {A = Reading Heading} (Ok (record { date = d; time = t; characters = n; flight = x; address = y; direction = z }, m)) (Ok (h, next))).
+    let u : record { date = d; time = t; characters = n; flight = x; address = y; direction = z } ≡ h = ok_value k in
+    let w : m ≡ next = ok_place k in
     rw (← u, ← w) (heading_made l at p q a b c m n x y z d t bl e₁ e₂ e₃ e₄ e₅ e₆))))))) e
-  where
-    apart : (r : Refusal) → headed.Refused r ≡ headed.Is h next → HeadingIs l at h next
-    apart r k = never (cc)
 
 -- ---- a forward message
 
@@ -271,7 +222,7 @@ forward_are_bits h m b = bits_append (heading_bits h) (string_bits bit m) (headi
 
 pub record ForwardRead (l : List ℕ) (at next : ℕ) (h : Heading) (m : List ℕ) : Type 0 where
   pub value : Forward
-  pub read : forward_at l at ≡ forwarded.Is value next
+  pub read : forward_at l at ≡ Ok (value, next)
   pub heading : value.heading ≡ h
   pub message : items_in l bit value.message ≡ m
 
@@ -290,27 +241,18 @@ pub record ForwardIs (l : List ℕ) (at : ℕ) (f : Forward) (next : ℕ) : Type
   pub placed_fits : forward_fits l f ≡ true
   pub stands : Stands l at (forward_bits f.heading (items_in l bit f.message)) next
 
-via_heading : (R : Type 0) (f : Forward) (next : ℕ) (t : Headed) (k : Heading → ℕ → Forwarded)
-    → ((h : Heading) (m : ℕ) → t ≡ headed.Is h m → k h m ≡ forwarded.Is f next → R)
-    → on_heading t k ≡ forwarded.Is f next → R
-via_heading R f next (headed.Is h m) k g e = g h m refl e
-via_heading R f next (headed.Refused r) k g e = never (cc)
-
-forward_made : (l : List ℕ) (at p next n : ℕ) (h : Heading) → Bits l → heading_at l at ≡ headed.Is h p → string_at l p bit 0 message_most ≡ Value n next → ForwardIs l at (record { heading = h; message = span_to bit n next }) next
+forward_made : (l : List ℕ) (at p next n : ℕ) (h : Heading) → Bits l → heading_at l at ≡ Ok (h, p) → string_at l p bit 0 message_most ≡ Ok (n, next) → ForwardIs l at (record { heading = h; message = span_to bit n next }) next
 unfolding forward_fits forward_bits
 forward_made l at p next n h b e f =
     let x = heading_read l at h p b e in
     let y = items_read l p next bit 0 message_most n b (omega arith) f in
     record { placed_fits = rw x.fits y.placed_fits; stands = stands_join l at p next _ _ x.stands y.stands }
 
-pub forward_read : (l : List ℕ) (at : ℕ) (f : Forward) (next : ℕ) → Bits l → forward_at l at ≡ forwarded.Is f next → ForwardIs l at f next
+pub forward_read : (l : List ℕ) (at : ℕ) (f : Forward) (next : ℕ) → Bits l → forward_at l at ≡ Ok (f, next) → ForwardIs l at f next
 unfolding forward_within
 forward_read l at f next b e =
-    via_heading (ForwardIs l at f next) f next (heading_at l at) _ (λ (h : Heading) (p : ℕ) (e₁ : heading_at l at ≡ headed.Is h p).
-    via (ForwardIs l at f next) forwarded.Refused (forwarded.Is f next) apart (string_at l p bit 0 message_most) _ (λ (n m : ℕ) (e₂ : string_at l p bit 0 message_most ≡ Value n m) (k : forwarded.Is (record { heading = h; message = span_to bit n m }) m ≡ forwarded.Is f next).
-    let u : record { heading = h; message = span_to bit n m } ≡ f = cc in
-    let w : m ≡ next = cc in
+    on_value (ForwardIs l at f next) (f, next) (heading_at l at) _ (λ (h : Heading) (p : ℕ) (e₁ : heading_at l at ≡ Ok (h, p)).
+    on_value (ForwardIs l at f next) (f, next) (string_at l p bit 0 message_most) _ (λ (n m : ℕ) (e₂ : string_at l p bit 0 message_most ≡ Ok (n, m)) (k : ◌≡◌ {A = Reading Forward} (Ok (record { heading = h; message = span_to bit n m }, m)) (Ok (f, next))).
+    let u : record { heading = h; message = span_to bit n m } ≡ f = ok_value k in
+    let w : m ≡ next = ok_place k in
     rw (← u, ← w) (forward_made l at p m n h b e₁ e₂))) e
-  where
-    apart : (r : Refusal) → forwarded.Refused r ≡ forwarded.Is f next → ForwardIs l at f next
-    apart r k = never (cc)

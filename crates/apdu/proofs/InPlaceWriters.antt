@@ -12,7 +12,6 @@ use lib.Pow.{pow-add}
 use Rattle.words.proofs.Laws.{both_left, both_right}
 use Rattle.bits.specs.Bits.{bits_n, run}
 use Rattle.bits.specs.Put.{left, put_bits, put_run, put_if, put_number, copy_run, put_led}
-use Rattle.bits.specs.declared.Put.{Put}
 use Rattle.bits.proofs.Numbers.{length_bits_n}
 use Rattle.fields.specs.Encodings.{length_bits}
 use Rattle.bits.proofs.Bytes.{length_to, run_to}
@@ -22,17 +21,16 @@ use Rattle.apdu.specs.Headings.{heading_bits, heading_fits}
 use Rattle.apdu.specs.Pdus.{lent, items_in, part_in}
 use Rattle.apdu.specs.Encoding.{presence, string_bits, forward_bits, forward_pdu_fits}
 use Rattle.apdu.specs.InPlace.{bits_in, perhaps_bits, headed_bits, forward_by}
-use Rattle.apdu.specs.Writing.{items_fit, part_fits, data_fits, forward_fits, there, place_of}
+use Rattle.apdu.specs.Writing.{items_fit, part_fits, data_fits, forward_fits, there, RoomFor, Goes, place_of}
 use Rattle.pdus.specs.declared.Span.{Span}
-use Rattle.apdu.specs.declared.Part.{Part}
-use Rattle.apdu.specs.declared.Part.TheVariants.{Absent, Given}
 use Rattle.apdu.specs.declared.Data.{Data}
 use Rattle.apdu.specs.declared.Heading.{Heading}
 use Rattle.apdu.specs.declared.Forward.{Forward}
 use Rattle.apdu.proofs.Bounds.{counted as in-sizes, items_fits, length_items, data_fits_is, forward_value_fits, forward_most, forward_most_is}
-use Rattle.apdu.proofs.Writers.{Goes, placed, behind, room_behind, room_for, from_start, number_run, there_lt}
+use Rattle.apdu.proofs.Writers.{placed, behind, room_behind, room_for, number_run, there_lt}
 use Rattle.apdu.proofs.ForwardWriters as forward
 use Rattle.apdu.proofs.ForwardWriters.{message_fits, forward_goes}
+use Rattle.std.specs.Prelude.{None, Option, Some}
 
 -- ---- a run of lent bytes that is within the sizes
 
@@ -53,34 +51,31 @@ module _ (src : List ℕ) (x : Span) (fits : items_fit (lent src) bit 0 message_
 
 -- ---- a message behind a number of a few bits, or that number alone
 
-no_bits : (l : List ℕ) (p : Part) → p ≡ Absent → bits_in (part_in l bit p) ≡ []
+no_bits : (l : List ℕ) (p : Option Span) → p ≡ None → bits_in (part_in l bit p) ≡ []
 unfolding bits_in part_in
 no_bits l p q = rw q
 
-its_bits : (l : List ℕ) (p : Part) (x : Span) → p ≡ Given x → bits_in (part_in l bit p) ≡ items_in l bit x
+its_bits : (l : List ℕ) (p : Option Span) (x : Span) → p ≡ Some x → bits_in (part_in l bit p) ≡ items_in l bit x
 unfolding bits_in part_in
 its_bits l p x q = rw q
 
-module _ (s z msgs : List ℕ) (lead led p : ℕ) (m : Part) (r : Put) (few : lead ≤ 6) (low : led < 2 ^ lead) (fits : part_fits (lent msgs) bit 0 message_most m ≡ true)
-    (room : length (bits_n lead led ++ bits_in (part_in (lent msgs) bit m)) ≤ length (lent s)) (q : p ≡ place_of r) where
+module _ (s z msgs : List ℕ) (lead led p : ℕ) (m : Option Span) (r : Option ℕ) (few : lead ≤ 6) (low : led < 2 ^ lead) (fits : part_fits (lent msgs) bit 0 message_most m ≡ true)
+    (room : RoomFor s 0 (bits_n lead led ++ bits_in (part_in (lent msgs) bit m))) (q : p ≡ place_of r) where
   whole_goes : left r z ≡ put_run s all_bits 0 (bits_n lead led ++ bits_in (part_in (lent msgs) bit m))
-      → (p ≡ length (bits_n lead led ++ bits_in (part_in (lent msgs) bit m))) ×
-      (z ≡ put_bits s 0 (bits_n lead led ++ bits_in (part_in (lent msgs) bit m)))
-  whole_goes w = from_start s z p _ (placed s z 0 p (bits_n lead led ++ bits_in (part_in (lent msgs) bit m)) r (omega arith) w q)
+      → Goes s z 0 p (bits_n lead led ++ bits_in (part_in (lent msgs) bit m))
+  whole_goes w = placed s z 0 p (bits_n lead led ++ bits_in (part_in (lent msgs) bit m)) r room w q
 
-  pub alone : m ≡ Absent → left r z ≡ put_number s all_bits 0 lead led
-      → (p ≡ length (bits_n lead led ++ bits_in (part_in (lent msgs) bit m))) ×
-      (z ≡ put_bits s 0 (bits_n lead led ++ bits_in (part_in (lent msgs) bit m)))
+  pub alone : m ≡ None → left r z ≡ put_number s all_bits 0 lead led
+      → Goes s z 0 p (bits_n lead led ++ bits_in (part_in (lent msgs) bit m))
   alone n w = whole_goes (number_run s (left r z) all_bits 0 lead led (omega arith) low w ∙ ap (put_run s all_bits 0)
       (rw (no_bits (lent msgs) m n, append-nil)))
 
-  itself : (x : Span) → m ≡ Given x → items_fit (lent msgs) bit 0 message_most x ≡ true
+  itself : (x : Span) → m ≡ Some x → items_fit (lent msgs) bit 0 message_most x ≡ true
   unfolding part_fits
   itself x g = rw g at fits
 
-  pub led_message : (x : Span) → m ≡ Given x → left r z ≡ put_led s all_bits 0 lead led msgs all_bits x.at x.count
-      → (p ≡ length (bits_n lead led ++ bits_in (part_in (lent msgs) bit m))) ×
-      (z ≡ put_bits s 0 (bits_n lead led ++ bits_in (part_in (lent msgs) bit m)))
+  pub led_message : (x : Span) → m ≡ Some x → left r z ≡ put_led s all_bits 0 lead led msgs all_bits x.at x.count
+      → Goes s z 0 p (bits_n lead led ++ bits_in (part_in (lent msgs) bit m))
   unfolding put_led put_if
   led_message x g w =
       let f = itself x g in
@@ -94,28 +89,28 @@ module _ (s z msgs : List ℕ) (lead led p : ℕ) (m : Part) (r : Put) (few : le
       whole_goes (k ∙ ap (λ (l : List ℕ). put_run s all_bits 0 (bits_n lead led ++ l)) (in_place msgs x f ∙ sym (its_bits (lent msgs) m x g)))
 
 -- what has shape fits the buffer, with its padding, behind a few bits
-part_most : (src : List ℕ) (p : Part) → part_fits (lent src) bit 0 message_most p ≡ true
+part_most : (src : List ℕ) (p : Option Span) → part_fits (lent src) bit 0 message_most p ≡ true
     → length (bits_in (part_in (lent src) bit p)) ≤ message_most
 unfolding part_fits bits_in part_in
-part_most src Absent h = omega arith
-part_most src (Given x) h = in-place-most src x h
+part_most src None h = omega arith
+part_most src (Some x) h = in-place-most src x h
 
 module _ (li msgs lc : List ℕ) (d : Data) (lead led : ℕ) (few : lead ≤ 6) (h : data_fits li (lent msgs) lc d ≡ true) where
   pub message_pads : length (bits_n lead led ++ bits_in (part_in (lent msgs) bit d.message)) + 7 ≤ 8 * buffer_least
   message_pads = rw (length-append, length_bits_n) (omega (arith, part_most msgs d.message (data_fits_is li (lent msgs) lc d h).message))
 
   pub message_room : (s : List ℕ) → buffer_least ≤ length s
-      → length (bits_n lead led ++ bits_in (part_in (lent msgs) bit d.message)) ≤ length (lent s)
+      → RoomFor s 0 (bits_n lead led ++ bits_in (part_in (lent msgs) bit d.message))
   message_room s b = room_for s _ b (omega (arith, message_pads))
 
 -- ---- the number before a start's message, with the bit of the CHOICE
 
-present : (l : List ℕ) (p : Part) → presence (part_in l bit p) ≡ there p
+present : (l : List ℕ) (p : Option Span) → presence (part_in l bit p) ≡ there p
 unfolding part_in
-present l Absent = refl
-present l (Given x) = refl
+present l None = refl
+present l (Some x) = refl
 
-module _ (w v t : ℕ) (p : Part) (e : t ≡ there p) where
+module _ (w v t : ℕ) (p : Option Span) (e : t ≡ there p) where
   marked_low : t < 2 ^ 1
   marked_low = omega (arith, e, there_lt p)
 
@@ -156,7 +151,7 @@ module _ (lm : List ℕ) (f : Forward) (lead led : ℕ) (counted : Bool) (few : 
       (omega (arith, by_most counted f.heading (items_in lm bit f.message) (forward_value_fits lm f h)))
 
   pub forward_room : (s : List ℕ) → buffer_least ≤ length s
-      → length (bits_n lead led ++ forward_by counted f.heading (items_in lm bit f.message)) ≤ length (lent s)
+      → RoomFor s 0 (bits_n lead led ++ forward_by counted f.heading (items_in lm bit f.message))
   forward_room s b = room_for s _ b (omega (arith, forward_pads))
 
 module _ (s msgs : List ℕ) (at : ℕ) (counted : Bool) (f : Forward) (fits : forward_fits (lent msgs) f ≡ true)
@@ -179,7 +174,7 @@ module _ (s msgs : List ℕ) (at : ℕ) (counted : Bool) (f : Forward) (fits : f
   unfolding headed_bits
   placed_room k = rw k at room
 
-  module _ (y : List ℕ) (p : ℕ) (r : Put) (w : left r y ≡ put_run s all_bits at (heading_bits f.heading)) (q : p ≡ place_of r) where
+  module _ (y : List ℕ) (p : ℕ) (r : Option ℕ) (w : left r y ≡ put_run s all_bits at (heading_bits f.heading)) (q : p ≡ place_of r) where
     pub items_fit_is : counted ≡ true → items_fit (lent msgs) bit 0 length_most f.message ≡ true
     items_fit_is k = message_fits s (lent msgs) at f fits (counted_room k)
 
@@ -194,7 +189,7 @@ module _ (s msgs : List ℕ) (at : ℕ) (counted : Bool) (f : Forward) (fits : f
     heading_goes : Goes s y at p (heading_bits f.heading)
     heading_goes = placed s y at p (heading_bits f.heading) r heading_asked.1 w q
 
-    items_goes : counted ≡ false → (z : List ℕ) (n : ℕ) (r₂ : Put)
+    items_goes : counted ≡ false → (z : List ℕ) (n : ℕ) (r₂ : Option ℕ)
         → left r₂ z ≡ copy_run y all_bits p msgs all_bits f.message.at f.message.count → n ≡ place_of r₂
         → Goes y z p n (items_in (lent msgs) bit f.message)
     unfolding copy_run put_if
@@ -207,7 +202,7 @@ module _ (s msgs : List ℕ) (at : ℕ) (counted : Bool) (f : Forward) (fits : f
         placed y z p n (items_in (lent msgs) bit f.message) r₂ (room_behind s y at p (heading_bits f.heading)
         (items_in (lent msgs) bit f.message) (placed_room k) heading_goes) e q₂
 
-    pub placed_goes : counted ≡ false → (z : List ℕ) (n : ℕ) (r₂ : Put)
+    pub placed_goes : counted ≡ false → (z : List ℕ) (n : ℕ) (r₂ : Option ℕ)
         → left r₂ z ≡ copy_run y all_bits p msgs all_bits f.message.at f.message.count → n ≡ place_of r₂
         → Goes s z at n (forward_by counted f.heading (items_in (lent msgs) bit f.message))
     unfolding headed_bits

@@ -8,39 +8,27 @@ use Prim.Native.Nat.{ℕ, zero, suc, ◌+◌, ◌-◌, ◌*◌}
 use lib.Dec.{leb, ltb, eqb}
 use lib.ListN.{length}
 use Rattle.bits.specs.Read.{read_bits}
-use Rattle.bits.specs.declared.Read.{Read}
-use Rattle.bits.specs.declared.Read.TheVariants as read
 use Rattle.fields.specs.Additions.{addition_at, stepped_over}
-use Rattle.fields.specs.Fields.{refused_at, then, field_of, bit_field, width_of, whole_number, length_at, length_from, long_length, length_within, run_at, string_at, onto}
+use Rattle.fields.specs.Fields.{Reading, refused_at, then, field_of, bit_field, width_of, whole_number, length_at, length_from, long_length, length_within, run_at, string_at}
 use Rattle.fields.specs.declared.Refusal.{Refusal}
 use Rattle.fields.specs.declared.Fault.{Fault}
 use Rattle.fields.specs.declared.Fault.TheVariants.{Short, Range, LengthForm, Limit, Default}
-use Rattle.fields.specs.declared.Field.{Field}
-use Rattle.fields.specs.declared.Field.TheVariants.{Value, Refused}
 use Rattle.apdu.specs.Sizes.{identifier_least, identifier_most, message_most, check_most, mode_last, octet, bit}
 use Rattle.apdu.specs.Headings.{triple, date_from, date_to, time_from, time_to, characters_least, characters_most, character, address_bits, direction_last}
-use Rattle.apdu.specs.Reading.{on_triple, on_heading, optional_at, span_to, parts_within, parts_at, triple_at, heading_at, forward_within, forward_at, mode_value, mode_at, kind_mode}
+use Rattle.apdu.specs.Reading.{optional_at, span_to, parts_within, parts_at, triple_at, heading_at, forward_within, forward_at, mode_value, mode_at, kind_mode}
 use Rattle.pdus.specs.declared.PduType.{PduType}
 use Rattle.pdus.specs.declared.PduType.TheVariants.{AircraftPdus, GroundPdus}
 use Rattle.apdu.specs.declared.Kind.{Kind}
 use Rattle.apdu.specs.declared.Kind.TheVariants as kind
-use Rattle.apdu.specs.declared.Data.{Data}
-use Rattle.apdu.specs.declared.Taken.TheVariants as taken
 use Rattle.apdu.specs.declared.Triple.{Triple}
 use Rattle.apdu.specs.declared.Heading.{Heading}
-use Rattle.apdu.specs.declared.Forward.{Forward}
-use Rattle.apdu.specs.declared.Triples.{Triples}
-use Rattle.apdu.specs.declared.Triples.TheVariants as triples
-use Rattle.apdu.specs.declared.Headed.{Headed}
-use Rattle.apdu.specs.declared.Headed.TheVariants as headed
-use Rattle.apdu.specs.declared.Forwarded.{Forwarded}
-use Rattle.apdu.specs.declared.Forwarded.TheVariants as forwarded
 use Rattle.apdu.proofs.Bounds.{never}
+use Rattle.std.specs.Prelude.{Err, None, Ok, Option, Result, Some}
 
 -- the fault in an answer that is a refusal
-abbrev fault_in : Field → Fault
-fault_in (Value v n) = Short
-fault_in (Refused r) = r.fault
+abbrev fault_in : Reading ℕ → Fault
+fault_in (Ok (v, n)) = Short
+fault_in (Err r) = r.fault
 
 pub record Not (bad : Refusal) : Type 0 where
   pub short : Short ≡ bad.fault → ⊥
@@ -49,33 +37,25 @@ pub record Not (bad : Refusal) : Type 0 where
   pub limit : Limit ≡ bad.fault → ⊥
   pub default : Default ≡ bad.fault → ⊥
 
-pub taken_one : (bad r : Refusal) → taken.Refused r ≡ taken.Refused bad → r ≡ bad
-taken_one bad r e = cc
-
-pub taken_is : (bad : Refusal) (d : Data) (n : ℕ) → taken.Is d n ≡ taken.Refused bad → ⊥
-taken_is bad d n e = never (cc)
-
 module _ (bad : Refusal) (not : Not bad) where
-  abbrev pub Spared : Field → Type 0
-  Spared f = f ≡ Refused bad → ⊥
+  abbrev pub Spared : {B : Type 0} → Result B Refusal → Type 0
+  Spared f = f ≡ Err bad → ⊥
 
-  pub spared_value : (v n : ℕ) → Spared (Value v n)
+  pub spared_value : {A : Type 0} (v : A) (n : ℕ) → Spared {B = A × ℕ} (Ok (v, n))
   spared_value v n e = never (cc)
 
-  pub spared_fault : (f : Fault) (at : ℕ) → (f ≡ bad.fault → ⊥) → Spared (refused_at at f)
+  pub spared_fault : (f : Fault) (at : ℕ) → (f ≡ bad.fault → ⊥) → Spared (refused_at {A = ℕ × ℕ} at f)
   spared_fault f at h e = h (ap fault_in e)
 
-  pub spared_then : (f : Field) (k : ℕ → ℕ → Field) → Spared f → ((v n : ℕ) → Spared (k v n)) → Spared (then f k)
-  spared_then (Value v n) k h g e = g v n e
-  spared_then (Refused r) k h g e = h e
+  pub spared_then : {A B : Type 0} (f : Reading A) (k : A → ℕ → Result B Refusal) → Spared f → ((v : A) (n : ℕ) → Spared (k v n)) → Spared (then f k)
+  spared_then (Ok (v, n)) k h g e = g v n e
+  spared_then (Err r) k h g e =
+      let s : r ≡ bad = cc in
+      h (ap Err s)
 
-  pub spared_cond : (t : Bool) (x y : Field) → Spared x → Spared y → Spared (cond t x y)
+  pub spared_cond : {B : Type 0} (t : Bool) (x y : Result B Refusal) → Spared x → Spared y → Spared (cond t x y)
   spared_cond true x y h g e = h e
   spared_cond false x y h g e = g e
-
-  pub spared_on : {A : Type 0} (up : Refusal → A) (one : (r : Refusal) → up r ≡ up bad → r ≡ bad) (f : Field) (k : ℕ → ℕ → A) → Spared f → ((v n : ℕ) → k v n ≡ up bad → ⊥) → onto up f k ≡ up bad → ⊥
-  spared_on up one (Value v n) k h g e = g v n e
-  spared_on up one (Refused r) k h g e = h (ap Refused (one r e))
 
   -- ---- fields
 
@@ -83,56 +63,56 @@ module _ (bad : Refusal) (not : Not bad) where
   unfolding bit_field
   bits_spared l at n = go (read_bits l at n)
     where
-      go : (r : Read) → Spared (field_of at r)
-      go (read.Number v m) = spared_value v m
-      go read.Short = spared_fault Short at not.short
+      go : (r : Option (ℕ × ℕ)) → Spared (field_of at r)
+      go (Some (v, m)) = spared_value v m
+      go None = spared_fault Short at not.short
 
   pub whole_spared : (l : List ℕ) (at lo hi : ℕ) → Spared (whole_number l at lo hi)
   unfolding whole_number
   whole_spared l at lo hi =
       spared_then (bit_field l at (width_of (hi - lo))) _ (bits_spared l at (width_of (hi - lo)))
-      (λ (d n : ℕ). spared_cond (leb (lo + d) hi) (Value (lo + d) n) (refused_at at Range) (spared_value (lo + d) n)
+      (λ (d n : ℕ). spared_cond (leb (lo + d) hi) (Ok (lo + d, n)) (refused_at at Range) (spared_value (lo + d) n)
       (spared_fault Range at not.range))
 
   length_spared : (l : List ℕ) (at : ℕ) → Spared (length_at l at)
   unfolding length_at
   length_spared l at =
       spared_then (bit_field l at 8) (length_from l at) (bits_spared l at 8) (λ (b n : ℕ).
-      spared_cond (ltb b 128) (Value b n) _ (spared_value b n)
+      spared_cond (ltb b 128) (Ok (b, n)) _ (spared_value b n)
       (spared_cond (leb 192 b) (refused_at at LengthForm) _ (spared_fault LengthForm at not.form)
       (spared_then (bit_field l at 16) (long_length at) (bits_spared l at 16)
-      (λ (v m : ℕ). spared_cond (ltb v (32768 + 128)) (refused_at at LengthForm) (Value (v - 32768) m)
+      (λ (v m : ℕ). spared_cond (ltb v (32768 + 128)) (refused_at at LengthForm) (Ok (v - 32768, m))
       (spared_fault LengthForm at not.form) (spared_value (v - 32768) m)))))
 
   run_spared : (l : List ℕ) (at count n : ℕ) → Spared (run_at l at count n)
   unfolding run_at
-  run_spared l at count n = spared_cond (leb (at + count) (length l)) (Value n (at + count)) (refused_at at Short)
+  run_spared l at count n = spared_cond (leb (at + count) (length l)) (Ok (n, at + count)) (refused_at at Short)
       (spared_value n (at + count)) (spared_fault Short at not.short)
 
   string_spared : (l : List ℕ) (at unit least most : ℕ) → Spared (string_at l at unit least most)
   unfolding string_at length_within
   string_spared l at unit least most =
-      spared_then (then (length_at l at) (λ (n next : ℕ). cond (leb least n && leb n most) (Value n next) (refused_at at Limit))) _
+      spared_then (then (length_at l at) (λ (n next : ℕ). cond (leb least n && leb n most) (Ok (n, next)) (refused_at at Limit))) _
       (spared_then (length_at l at) _ (length_spared l at) (λ (n m : ℕ). spared_cond (leb least n && leb n most)
-      (Value n m) (refused_at at Limit) (spared_value n m) (spared_fault Limit at not.limit)))
+      (Ok (n, m)) (refused_at at Limit) (spared_value n m) (spared_fault Limit at not.limit)))
       (λ (n from : ℕ). run_spared l from (unit * n) n)
 
   optional_spared : (l : List ℕ) (t : Bool) (at unit least most : ℕ) → Spared (optional_at l t at unit least most)
   unfolding optional_at
-  optional_spared l t at unit least most = spared_cond t (string_at l at unit least most) (Value 0 at)
+  optional_spared l t at unit least most = spared_cond t (string_at l at unit least most) (Ok (0, at))
       (string_spared l at unit least most) (spared_value 0 at)
 
   mode_value_spared : (l : List ℕ) (at : ℕ) → Spared (mode_value l at)
   unfolding mode_value
   mode_value_spared l at =
       spared_then (whole_number l at 0 mode_last) _ (whole_spared l at 0 mode_last)
-      (λ (m n : ℕ). spared_cond (eqb m 0) (refused_at at Default) (Value m n) (spared_fault Default at not.default) (spared_value m n))
+      (λ (m n : ℕ). spared_cond (eqb m 0) (refused_at at Default) (Ok (m, n)) (spared_fault Default at not.default) (spared_value m n))
 
   mode_spared : (pdus : PduType) (l : List ℕ) (at : ℕ) → Spared (mode_at pdus l at)
   unfolding mode_at
   mode_spared GroundPdus l at = spared_value 0 at
   mode_spared AircraftPdus l at = spared_then (bit_field l at 1) _ (bits_spared l at 1)
-      (λ (p n : ℕ). spared_cond (eqb p 0) (Value 0 n) (mode_value l n) (spared_value 0 n) (mode_value_spared l n))
+      (λ (p n : ℕ). spared_cond (eqb p 0) (Ok (0, n)) (mode_value l n) (spared_value 0 n) (mode_value_spared l n))
 
   pub kind_mode_spared : (pdus : PduType) (l : List ℕ) (c : Kind) (at : ℕ) → Spared (kind_mode pdus l c at)
   unfolding kind_mode
@@ -154,65 +134,37 @@ module _ (bad : Refusal) (not : Not bad) where
   stepped_spared l zero at = spared_value 0 at
   stepped_spared l (suc k) at = spared_then (addition_at l at) _ (addition_spared l at) (λ (n next : ℕ). stepped_spared l k next)
 
-  pub parts_spared : (l : List ℕ) (at : ℕ) (i m : Bool) → parts_at l at i m ≡ taken.Refused bad → ⊥
+  pub parts_spared : (l : List ℕ) (at : ℕ) (i m : Bool) → Spared (parts_at l at i m)
   unfolding parts_within
   parts_spared l at i m =
-      spared_on taken.Refused (taken_one bad) (optional_at l i at octet identifier_least identifier_most) _ (optional_spared l i at octet identifier_least identifier_most) (λ (n₁ p : ℕ).
-      spared_on taken.Refused (taken_one bad) (optional_at l m p bit 0 message_most) _ (optional_spared l m p bit 0 message_most) (λ (n₂ q : ℕ).
-      spared_on taken.Refused (taken_one bad) (string_at l q bit 0 check_most) _ (string_spared l q bit 0 check_most)
-      (λ (n₃ k : ℕ). taken_is bad _ k)))
+      spared_then (optional_at l i at octet identifier_least identifier_most) _ (optional_spared l i at octet identifier_least identifier_most) (λ (n₁ p : ℕ).
+      spared_then (optional_at l m p bit 0 message_most) _ (optional_spared l m p bit 0 message_most) (λ (n₂ q : ℕ).
+      spared_then (string_at l q bit 0 check_most) _ (string_spared l q bit 0 check_most)
+      (λ (n₃ k : ℕ). spared_value _ k)))
 
   -- ---- a forward message
 
-  triples_one : (r : Refusal) → triples.Refused r ≡ triples.Refused bad → r ≡ bad
-  triples_one r e = cc
-
-  headed_one : (r : Refusal) → headed.Refused r ≡ headed.Refused bad → r ≡ bad
-  headed_one r e = cc
-
-  forwarded_one : (r : Refusal) → forwarded.Refused r ≡ forwarded.Refused bad → r ≡ bad
-  forwarded_one r e = cc
-
-  triples_is : (v : Triple) (n : ℕ) → triples.Is v n ≡ triples.Refused bad → ⊥
-  triples_is v n e = never (cc)
-
-  headed_is : (h : Heading) (n : ℕ) → headed.Is h n ≡ headed.Refused bad → ⊥
-  headed_is h n e = never (cc)
-
-  forwarded_is : (f : Forward) (n : ℕ) → forwarded.Is f n ≡ forwarded.Refused bad → ⊥
-  forwarded_is f n e = never (cc)
-
-  triple_spared : (l : List ℕ) (at : ℕ) (lo hi : Triple) → triple_at l at lo hi ≡ triples.Refused bad → ⊥
+  triple_spared : (l : List ℕ) (at : ℕ) (lo hi : Triple) → Spared (triple_at l at lo hi)
   unfolding triple_at
   triple_spared l at lo hi =
-      spared_on triples.Refused triples_one (whole_number l at lo.first hi.first) _ (whole_spared l at lo.first hi.first) (λ (x p : ℕ).
-      spared_on triples.Refused triples_one (whole_number l p lo.second hi.second) _ (whole_spared l p lo.second hi.second) (λ (y q : ℕ).
-      spared_on triples.Refused triples_one (whole_number l q lo.third hi.third) _
-      (whole_spared l q lo.third hi.third) (λ (z n : ℕ). triples_is (triple x y z) n)))
+      spared_then (whole_number l at lo.first hi.first) _ (whole_spared l at lo.first hi.first) (λ (x p : ℕ).
+      spared_then (whole_number l p lo.second hi.second) _ (whole_spared l p lo.second hi.second) (λ (y q : ℕ).
+      spared_then (whole_number l q lo.third hi.third) _
+      (whole_spared l q lo.third hi.third) (λ (z n : ℕ). spared_value (triple x y z) n)))
 
-  on_triple_is : (t : Triples) (k : Triple → ℕ → Headed) → (t ≡ triples.Refused bad → ⊥)
-      → ((v : Triple) (n : ℕ) → k v n ≡ headed.Refused bad → ⊥) → on_triple t k ≡ headed.Refused bad → ⊥
-  on_triple_is (triples.Is v n) k h g e = g v n e
-  on_triple_is (triples.Refused r) k h g e = h (ap triples.Refused (headed_one r e))
-
-  heading_spared : (l : List ℕ) (at : ℕ) → heading_at l at ≡ headed.Refused bad → ⊥
+  heading_spared : (l : List ℕ) (at : ℕ) → Spared (heading_at l at)
   unfolding heading_at
   heading_spared l at =
-      on_triple_is (triple_at l at date_from date_to) _ (triple_spared l at date_from date_to) (λ (d : Triple) (p : ℕ).
-      on_triple_is (triple_at l p time_from time_to) _ (triple_spared l p time_from time_to) (λ (t : Triple) (q : ℕ).
-      spared_on headed.Refused headed_one (whole_number l q characters_least characters_most) _ (whole_spared l q characters_least characters_most) (λ (n a : ℕ).
-      spared_on headed.Refused headed_one (bit_field l a (character * n)) _ (bits_spared l a (character * n)) (λ (x b : ℕ).
-      spared_on headed.Refused headed_one (bit_field l b address_bits) _ (bits_spared l b address_bits) (λ (y c : ℕ).
-      spared_on headed.Refused headed_one (whole_number l c 0 direction_last) _ (whole_spared l c 0 direction_last) (λ (z m : ℕ).
-      headed_is (record { date = d; time = t; characters = n; flight = x; address = y; direction = z }) m))))))
+      spared_then (triple_at l at date_from date_to) _ (triple_spared l at date_from date_to) (λ (d : Triple) (p : ℕ).
+      spared_then (triple_at l p time_from time_to) _ (triple_spared l p time_from time_to) (λ (t : Triple) (q : ℕ).
+      spared_then (whole_number l q characters_least characters_most) _ (whole_spared l q characters_least characters_most) (λ (n a : ℕ).
+      spared_then (bit_field l a (character * n)) _ (bits_spared l a (character * n)) (λ (x b : ℕ).
+      spared_then (bit_field l b address_bits) _ (bits_spared l b address_bits) (λ (y c : ℕ).
+      spared_then (whole_number l c 0 direction_last) _ (whole_spared l c 0 direction_last) (λ (z m : ℕ).
+      spared_value (record { date = d; time = t; characters = n; flight = x; address = y; direction = z }) m))))))
 
-  on_heading_is : (t : Headed) (k : Heading → ℕ → Forwarded) → (t ≡ headed.Refused bad → ⊥)
-      → ((v : Heading) (n : ℕ) → k v n ≡ forwarded.Refused bad → ⊥) → on_heading t k ≡ forwarded.Refused bad → ⊥
-  on_heading_is (headed.Is v n) k h g e = g v n e
-  on_heading_is (headed.Refused r) k h g e = h (ap headed.Refused (forwarded_one r e))
-
-  pub forward_spared : (l : List ℕ) (at : ℕ) → forward_at l at ≡ forwarded.Refused bad → ⊥
+  pub forward_spared : (l : List ℕ) (at : ℕ) → Spared (forward_at l at)
   unfolding forward_within
   forward_spared l at =
-      on_heading_is (heading_at l at) _ (heading_spared l at) (λ (h : Heading) (p : ℕ).
-      spared_on forwarded.Refused forwarded_one (string_at l p bit 0 message_most) _ (string_spared l p bit 0 message_most) (λ (n m : ℕ). forwarded_is (record { heading = h; message = span_to bit n m }) m))
+      spared_then (heading_at l at) _ (heading_spared l at) (λ (h : Heading) (p : ℕ).
+      spared_then (string_at l p bit 0 message_most) _ (string_spared l p bit 0 message_most) (λ (n m : ℕ). spared_value (record { heading = h; message = span_to bit n m }) m))

@@ -11,46 +11,41 @@ use lib.Dec.{leb, eqb}
 use lib.ListN.{length, take, drop, get_or, replicate, length-append, get_or-append}
 use lib.Seq.{take_at, drop_at, take-length, length-take-le, get_or-append-add}
 use lib.Pow.{pow_pos}
+use Rattle.words.proofs.Laws.{ok_place}
 use Rattle.bits.specs.Bits.{bits_n, bits_of}
 use Rattle.bits.specs.Put.{put_bits}
 use Rattle.bits.proofs.Numbers.{Bits, bits_bits_n, length_bits_n}
 use Rattle.bits.proofs.Bytes.{Bytes, bits_append, bits_take, bits_drop, bits_to_is, length_bits_is, length_to}
 use Rattle.bits.proofs.Putting.{length_put}
-use Rattle.fields.specs.Fields.{refused_at, bit_field, digits_in, width_of, onto}
+use Rattle.fields.specs.Fields.{refused_at, bit_field, digits_in, width_of, then}
 use Rattle.fields.specs.Encodings.{bits_fit, index_bits, length_bits, whole_bits}
 use Rattle.fields.specs.declared.Fault.TheVariants.{Tail}
-use Rattle.fields.specs.declared.Field.{Field}
-use Rattle.fields.specs.declared.Field.TheVariants.{Value, Refused}
-use Rattle.apdu.specs.declared.Taken.{Taken}
-use Rattle.apdu.specs.declared.Taken.TheVariants as taken
 use Rattle.fields.proofs.RoundTrip.{Stands, stands_join, stands_split, bit_field_is, whole_number_is, extensible_index_is, length_determinant}
-use Rattle.fields.proofs.RoundTrip as fields
 use Rattle.apdu.specs.Sizes.{buffer_least, all_bits, octet, bit, identifier_most, message_most, check_most, mode_last, user_last, provider_last}
 use Rattle.apdu.specs.Headings.{response_last}
 use Rattle.apdu.specs.Pdus.{given, Content, Pdu, start, last_of, lent, items_in, part_in, content_in, pdu_in}
 use Rattle.apdu.specs.Encoding.{string_bits, optional_bits, optional_fits, presence, alternative, root_bits, content_bits, content_fits, forward_bits, forward_pdu_fits, mode_bits, mode_fits, pdu_bits, pdu_fits, padding, padded, bytes_for}
-use Rattle.apdu.specs.Reading.{on_taken, tail_at, apdu_at, data_at, whole_within, whole_data, whole_forward_within, whole_forward}
+use Rattle.apdu.specs.Reading.{tail_at, apdu_at, data_at, whole_within, whole_data, whole_forward_within, whole_forward}
 use Rattle.apdu.specs.Stripped.{root_end, strip_at, strip, extended}
 use Rattle.apdu.specs.Writing.{apdu_fits, done, write_out}
 use Rattle.pdus.specs.declared.PduType.{PduType}
 use Rattle.pdus.specs.declared.PduType.TheVariants.{AircraftPdus, GroundPdus}
 use Rattle.apdu.specs.declared.Kind.TheVariants as kind
 use Rattle.pdus.specs.declared.Span.{Span}
-use Rattle.apdu.specs.declared.Part.{Part}
-use Rattle.apdu.specs.declared.Part.TheVariants.{Absent, Given}
 use Rattle.apdu.specs.declared.Data.{Data}
 use Rattle.apdu.specs.declared.Heading.{Heading}
 use Rattle.apdu.specs.declared.Forward.{Forward}
-use Rattle.apdu.specs.declared.Forwarded.TheVariants as forwarded
 use Rattle.apdu.specs.declared.Apdu.{Apdu}
 use Rattle.apdu.specs.declared.Apdu.TheVariants as apdu
-use Rattle.apdu.specs.declared.Decoded.TheVariants as decoded
-use Rattle.apdu.specs.declared.Written.TheVariants as written
 use Rattle.apdu.proofs.Bounds.{never, apdu_value_fits, content_most_is, forward_most_is, pdu_most, pdu_most_is, width, length_alternative}
-use Rattle.apdu.proofs.Contents.{DataIs, data_mark, data_plain, data_written, data_read}
+use Rattle.apdu.proofs.Contents.{on_value, DataIs, data_mark, data_plain, data_written, data_read}
 use Rattle.apdu.proofs.Forwards.{forward_are_bits, forward_written}
 use Rattle.apdu.proofs.Apdus.{ApduRead, Led, Standing, apdu_written, apdu_read}
 use Rattle.apdu.proofs.Octets.{all_bits_is, put_bytes, front_bits}
+use Rattle.std.specs.Prelude.{Err, None, Ok, Option, Some}
+use Rattle.fields.specs.Fields.{Reading}
+use Rattle.words.specs.declared.Unwritten.TheVariants.{Room}
+use Rattle.words.specs.declared.Unwritten.TheVariants.{Shape}
 
 -- ---- whole bytes
 
@@ -80,7 +75,7 @@ stands_pad bs =
     record { place = omega arith; within = omega arith; holds = rw (drop_at bs (bits_n (padding (length bs)) 0) (length bs) refl) (take-length (bits_n (padding (length bs)) 0)) }
 
 -- no TAIL after a padded encoding
-pub tail_padded : (bs : List ℕ) → tail_at (padded bs) (length bs) ≡ Value 0 (length bs + padding (length bs))
+pub tail_padded : (bs : List ℕ) → tail_at (padded bs) (length bs) ≡ Ok (0, length bs + padding (length bs))
 unfolding tail_at
 tail_padded bs =
     let k : ℕ = padding (length bs) in
@@ -121,10 +116,10 @@ string_are_bits l unit x h = bits_append (length_bits (length (items_in l unit x
     (length_determinant.are_bits (length (items_in l unit x) / unit))
     (bits_take (unit * x.count) (drop x.at l) (bits_drop x.at l h))
 
-part_are_bits : (l : List ℕ) (unit : ℕ) (p : Part) → Bits l → Bits (optional_bits unit (part_in l unit p))
+part_are_bits : (l : List ℕ) (unit : ℕ) (p : Option Span) → Bits l → Bits (optional_bits unit (part_in l unit p))
 unfolding optional_bits part_in
-part_are_bits l unit Absent h = no_bits
-part_are_bits l unit (Given x) h = string_are_bits l unit x h
+part_are_bits l unit None h = no_bits
+part_are_bits l unit (Some x) h = string_are_bits l unit x h
 
 pub content_are_bits : (li lm lc : List ℕ) (d : Data) → Bits li → Bits lm → Bits lc → Bits (content_bits (content_in li lm lc d))
 unfolding content_bits content_in
@@ -195,7 +190,7 @@ put_read pdus a ids msgs checks t h g =
 -- message data by itself, as it is delivered
 pub record DataWhole (l : List ℕ) (c : Content) : Type 0 where
   pub parts : Data
-  pub read : whole_data l ≡ taken.Is parts (length (content_bits c))
+  pub read : whole_data l ≡ Ok (parts, length (content_bits c))
   pub content : content_in l l l parts ≡ c
 
 data_accepted : (c : Content) → content_fits c ≡ true → DataWhole (padded (content_bits c)) c
@@ -211,20 +206,18 @@ data_written_read c t b h g =
     rw (front t (content_bits c) b (omega arith) g).bits (data_accepted c h)
 
 -- what was read by itself stands there, within the sizes
-pub whole_data_is : (l : List ℕ) (d : Data) (next : ℕ) → Bits l → whole_data l ≡ taken.Is d next → DataIs l 0 next d
+pub whole_data_is : (l : List ℕ) (d : Data) (next : ℕ) → Bits l → whole_data l ≡ Ok (d, next) → DataIs l 0 next d
 unfolding whole_within
-whole_data_is l d next b h = from (data_at l 0) refl h
+whole_data_is l d next b h = on_value (DataIs l 0 next d) (d, next) (data_at l 0) _ from h
   where
-    ended : (e : Data) (n : ℕ) (f : Field) → onto taken.Refused f (λ (v m : ℕ). taken.Is e n) ≡ taken.Is d next
-        → taken.Is e n ≡ taken.Is d next
-    ended e n (Value v m) p = p
-    ended e n (Refused r) p = let z : ◌≡◌ {A = ℕ} 0 1 = cc in absurd (omega arith)
+    ended : (e : Data) (n : ℕ) (f : Reading ℕ) → then {A = ℕ} {B = Data × ℕ} f (λ (v m : ℕ). Ok (e, n)) ≡ Ok (d, next)
+        → ◌≡◌ {A = Reading Data} (Ok (e, n)) (Ok (d, next))
+    ended e n (Ok (v, m)) p = p
+    ended e n (Err r) p = let z : ◌≡◌ {A = ℕ} 0 1 = cc in absurd (omega arith)
 
-    from : (t : Taken) → data_at l 0 ≡ t
-        → on_taken t (λ (e : Data) (n : ℕ). onto taken.Refused (tail_at l n) (λ (v m : ℕ). taken.Is e n)) ≡ taken.Is d next
+    from : (e : Data) (n : ℕ) → data_at l 0 ≡ Ok (e, n) → then {A = ℕ} {B = Data × ℕ} (tail_at l n) (λ (v m : ℕ). Ok (e, n)) ≡ Ok (d, next)
         → DataIs l 0 next d
-    from (taken.Is e n) q p = data_read l 0 next d b (q ∙ ended e n (tail_at l n) p)
-    from (taken.Refused r) q p = let z : ◌≡◌ {A = ℕ} 0 1 = cc in absurd (omega arith)
+    from e n q p = data_read l 0 next d b (q ∙ ended e n (tail_at l n) p)
 
 -- one encoding, one value
 pub one_value : (pdus : PduType) (v w : Pdu) → pdu_fits pdus v ≡ true → pdu_fits pdus w ≡ true
@@ -233,7 +226,7 @@ one_value pdus v w f g e =
     let l : List ℕ = padded (pdu_bits pdus v) in
     let x = encoding_accepted pdus (padded (pdu_bits pdus v)) v f refl in
     let y = encoding_accepted pdus (padded (pdu_bits pdus v)) w g e in
-    let q : decoded.Is x.value ≡ decoded.Is y.value = sym x.read ∙ y.read in
+    let q : Ok x.value ≡ Ok y.value = sym x.read ∙ y.read in
     let z : x.value ≡ y.value = cc in
     sym x.same ∙ ap (pdu_in (padded (pdu_bits pdus v)) (padded (pdu_bits pdus v)) (padded (pdu_bits pdus v))) z ∙ y.same
 
@@ -243,28 +236,28 @@ record TailIs (l : List ℕ) (at next : ℕ) : Type 0 where
   stands : Stands l at (bits_n (padding at) 0) next
   end : length l ≤ next
 
-tail_is : (l : List ℕ) (at v next : ℕ) → Bits l → tail_at l at ≡ Value v next → TailIs l at next
+tail_is : (l : List ℕ) (at v next : ℕ) → Bits l → tail_at l at ≡ Ok (v, next) → TailIs l at next
 unfolding tail_at
-tail_is l at v next b e = fields.via (TailIs l at next) (bit_field l at (padding at)) _ v next found e
+tail_is l at v next b e = on_value (TailIs l at next) (v, next) (bit_field l at (padding at)) _ found e
   where
-    last : (m : ℕ) → bit_field l at (padding at) ≡ Value 0 m → (t : Bool) → leb (m + 1) (length l) ≡ t
-        → cond t (refused_at m Tail) (Value 0 m) ≡ Value v next → TailIs l at next
+    last : (m : ℕ) → bit_field l at (padding at) ≡ Ok (0, m) → (t : Bool) → leb (m + 1) (length l) ≡ t
+        → cond {A = Reading ℕ} t (refused_at m Tail) (Ok (0, m)) ≡ Ok (v, next) → TailIs l at next
     last m f true p k = never (cc)
     last m f false p k =
-        let x : m ≡ next = cc in
+        let x : m ≡ next = ok_place k in
         let h = leb-false (m + 1) (length l) p in
         rw (← x) (record { stands = (bit_field_is (padding at)).read_written l at 0 m b f; end = omega arith })
 
-    go : (w m : ℕ) → bit_field l at (padding at) ≡ Value w m → (t : Bool) → eqb w 0 ≡ t
-        → cond t (cond (leb (m + 1) (length l)) (refused_at m Tail) (Value 0 m)) (refused_at (m - width_of w) Tail) ≡ Value v next
+    go : (w m : ℕ) → bit_field l at (padding at) ≡ Ok (w, m) → (t : Bool) → eqb w 0 ≡ t
+        → cond {A = Reading ℕ} t (cond (leb (m + 1) (length l)) (refused_at m Tail) (Ok (0, m))) (refused_at (m - width_of w) Tail) ≡ Ok (v, next)
         → TailIs l at next
     go w m f true p k =
         let z : w ≡ 0 = eqb-true w 0 p in
         last m (rw z at f) (leb (m + 1) (length l)) refl k
     go w m f false p k = never (cc)
 
-    found : (w m : ℕ) → bit_field l at (padding at) ≡ Value w m
-        → cond (eqb w 0) (cond (leb (m + 1) (length l)) (refused_at m Tail) (Value 0 m)) (refused_at (m - width_of w) Tail) ≡ Value v next
+    found : (w m : ℕ) → bit_field l at (padding at) ≡ Ok (w, m)
+        → cond {A = Reading ℕ} (eqb w 0) (cond (leb (m + 1) (length l)) (refused_at m Tail) (Ok (0, m))) (refused_at (m - width_of w) Tail) ≡ Ok (v, next)
         → TailIs l at next
     found w m f k = go w m f (eqb w 0) refl k
 
@@ -286,7 +279,7 @@ all_of l bs next s h =
     let n : length bs ≡ length l = omega arith in
     sym (take-length l) ∙ rw (← n) s.holds
 
-pub ended_whole : (l bs : List ℕ) (place left end : ℕ) → Bits l → Stands l 0 bs place → tail_at l place ≡ Value left end → l ≡ padded bs
+pub ended_whole : (l bs : List ℕ) (place left end : ℕ) → Bits l → Stands l 0 bs place → tail_at l place ≡ Ok (left, end) → l ≡ padded bs
 unfolding padded
 ended_whole l bs place left end b s t =
     let p : place ≡ length bs = omega (arith, s.place) in
@@ -341,7 +334,7 @@ pub record Accepted (pdus : PduType) (l : List ℕ) (a : Apdu) : Type 0 where
   pub bits : strip pdus l a ≡ padded (pdu_bits pdus (pdu_in l l l a))
 
 strip_encoding : (pdus : PduType) (l : List ℕ) (place left end : ℕ) (a : Apdu) → Bits l → Standing pdus l 0 place a
-    → tail_at l place ≡ Value left end → strip pdus l a ≡ padded (pdu_bits pdus (pdu_in l l l a))
+    → tail_at l place ≡ Ok (left, end) → strip pdus l a ≡ padded (pdu_bits pdus (pdu_in l l l a))
 unfolding strip pdu_bits pdu_in
 strip_encoding pdus l place left end (apdu.AbortUser r) b s t = ended_whole l _ place left end b s t
 strip_encoding pdus l place left end (apdu.AbortProvider r) b s t = ended_whole l _ place left end b s t
@@ -351,13 +344,13 @@ strip_encoding pdus l place left end (apdu.Send d) b s t = led_strip l _ place d
 strip_encoding pdus l place left end (apdu.Forward f) b s t = ended_whole l _ place left end b s t
 strip_encoding pdus l place left end (apdu.ForwardResponse x) b s t = ended_whole l _ place left end b s t
 
-pub accepted_encoding : (pdus : PduType) (l : List ℕ) (a : Apdu) → Bits l → apdu_at pdus l 0 ≡ decoded.Is a → Accepted pdus l a
+pub accepted_encoding : (pdus : PduType) (l : List ℕ) (a : Apdu) → Bits l → apdu_at pdus l 0 ≡ Ok a → Accepted pdus l a
 accepted_encoding pdus l a b e =
     let i = apdu_read pdus l 0 a b e in
     record { placed_fits = i.placed_fits; fits = apdu_value_fits pdus l l l a i.placed_fits; bits = strip_encoding pdus l i.place i.left i.end a b i.stands i.tail }
 
 -- WITH THE ADDITIONS GONE IT IS READ AS THE SAME VALUE
-pub stripped_read : (pdus : PduType) (l : List ℕ) (a : Apdu) → Bits l → apdu_at pdus l 0 ≡ decoded.Is a
+pub stripped_read : (pdus : PduType) (l : List ℕ) (a : Apdu) → Bits l → apdu_at pdus l 0 ≡ Ok a
     → ApduRead pdus (strip pdus l a) 0 (pdu_in l l l a)
 stripped_read pdus l a b e =
     let c = accepted_encoding pdus l a b e in
@@ -384,7 +377,7 @@ pub record Same (pdus : PduType) (l : List ℕ) (a : Apdu) : Type 0 where
   pub stands : Stands l 0 (pdu_bits pdus (pdu_in l l l a)) (length (pdu_bits pdus (pdu_in l l l a)))
 
 pub plain_encoding : (pdus : PduType) (l : List ℕ) (a : Apdu) → Bits l → extended pdus l a ≡ false
-    → apdu_at pdus l 0 ≡ decoded.Is a → Same pdus l a
+    → apdu_at pdus l 0 ≡ Ok a → Same pdus l a
 plain_encoding pdus l a b x e =
     let i = apdu_read pdus l 0 a b e in
     let s = plain_stands pdus l i.place a i.stands x in
@@ -392,7 +385,7 @@ plain_encoding pdus l a b x e =
 
 -- to take additions away changes nothing exactly where there are none
 pub plain_strip : (pdus : PduType) (l : List ℕ) (a : Apdu) → Bits l → extended pdus l a ≡ false
-    → apdu_at pdus l 0 ≡ decoded.Is a → strip pdus l a ≡ l
+    → apdu_at pdus l 0 ≡ Ok a → strip pdus l a ≡ l
 plain_strip pdus l a b x e = (accepted_encoding pdus l a b e).bits ∙ sym (plain_encoding pdus l a b x e).bits
 
 unmarked : (x y : ℕ) → x ≡ y → y ≡ 0 → eqb x 1 ≡ false
@@ -411,7 +404,7 @@ strip_standing pdus l place (apdu.Send d) s e = unmarked _ _
 strip_standing pdus l place (apdu.Forward f) s e = refl
 strip_standing pdus l place (apdu.ForwardResponse x) s e = refl
 
-pub strip_plain : (pdus : PduType) (l : List ℕ) (a : Apdu) → Bits l → apdu_at pdus l 0 ≡ decoded.Is a
+pub strip_plain : (pdus : PduType) (l : List ℕ) (a : Apdu) → Bits l → apdu_at pdus l 0 ≡ Ok a
     → strip pdus l a ≡ l → extended pdus l a ≡ false
 strip_plain pdus l a b e k =
     let i = apdu_read pdus l 0 a b e in
@@ -419,7 +412,7 @@ strip_plain pdus l a b e k =
 
 -- every bit of accepted bytes without additions is lent
 accepted_all : (pdus : PduType) (s : List ℕ) (a : Apdu) → extended pdus (lent s) a ≡ false
-    → apdu_at pdus (lent s) 0 ≡ decoded.Is a → lent s ≡ bits_of s
+    → apdu_at pdus (lent s) 0 ≡ Ok a → lent s ≡ bits_of s
 accepted_all pdus s a x e =
     let c = accepted_encoding pdus (lent s) a (bits_to_is s all_bits) e in
     let m = pdu_most_is pdus (pdu_in (lent s) (lent s) (lent s) a) c.fits in
@@ -432,9 +425,9 @@ accepted_all pdus s a x e =
 -- To write what was read from bytes without additions, with the parts taken from where they stand, leaves those bytes in the buffer, and later bytes as they
 -- were.
 pub read_written : (pdus : PduType) (s t : List ℕ) (a : Apdu) → Bytes s → Bytes t → buffer_least ≤ length t
-    → extended pdus (lent s) a ≡ false → apdu_at pdus (lent s) 0 ≡ decoded.Is a
+    → extended pdus (lent s) a ≡ false → apdu_at pdus (lent s) 0 ≡ Ok a
     → write_out (apdu_fits pdus (lent s) (lent s) (lent s) a) t (pdu_bits pdus (pdu_in (lent s) (lent s) (lent s) a))
-    ≡ done (written.Bits (length (pdu_bits pdus (pdu_in (lent s) (lent s) (lent s) a)))) (s ++ drop (length s) t)
+    ≡ done (Ok (length (pdu_bits pdus (pdu_in (lent s) (lent s) (lent s) a)))) (s ++ drop (length s) t)
 unfolding write_out
 read_written pdus s t a hs ht g x e =
     let c = accepted_encoding pdus (lent s) a (bits_to_is s all_bits) e in
@@ -452,9 +445,9 @@ read_written pdus s t a hs ht g x e =
 -- ---- with additions or without
 
 -- To write what was read leaves the APDU with the additions gone at the front of the buffer, and later bytes as they were.
-pub read_stripped : (pdus : PduType) (s t : List ℕ) (a : Apdu) → buffer_least ≤ length t → apdu_at pdus (lent s) 0 ≡ decoded.Is a
+pub read_stripped : (pdus : PduType) (s t : List ℕ) (a : Apdu) → buffer_least ≤ length t → apdu_at pdus (lent s) 0 ≡ Ok a
     → write_out (apdu_fits pdus (lent s) (lent s) (lent s) a) t (pdu_bits pdus (pdu_in (lent s) (lent s) (lent s) a))
-    ≡ done (written.Bits (length (pdu_bits pdus (pdu_in (lent s) (lent s) (lent s) a)))) (put_bits t 0 (strip pdus (lent s) a))
+    ≡ done (Ok (length (pdu_bits pdus (pdu_in (lent s) (lent s) (lent s) a)))) (put_bits t 0 (strip pdus (lent s) a))
 unfolding write_out
 read_stripped pdus s t a g e =
     let c = accepted_encoding pdus (lent s) a (bits_to_is s all_bits) e in
@@ -462,28 +455,28 @@ read_stripped pdus s t a g e =
 
 -- ---- the writer's refusals, and no others
 
-pub refuses_room : (ok : Bool) (s bs : List ℕ) → length s < buffer_least → write_out ok s bs ≡ done written.Room s
+pub refuses_room : (ok : Bool) (s bs : List ℕ) → length s < buffer_least → write_out ok s bs ≡ done (Err Room) s
 unfolding write_out
 refuses_room ok s bs h = rw (lt-ltb (length s) buffer_least h)
 
-pub refuses_shape : (s bs : List ℕ) → buffer_least ≤ length s → write_out false s bs ≡ done written.Shape s
+pub refuses_shape : (s bs : List ℕ) → buffer_least ≤ length s → write_out false s bs ≡ done (Err Shape) s
 unfolding write_out
 refuses_shape s bs h = rw (le-ltb (length s) buffer_least h)
 
-pub writes : (s bs : List ℕ) → buffer_least ≤ length s → write_out true s bs ≡ done (written.Bits (length bs)) (put_bits s 0 (padded bs))
+pub writes : (s bs : List ℕ) → buffer_least ≤ length s → write_out true s bs ≡ done (Ok (length bs)) (put_bits s 0 (padded bs))
 unfolding write_out
 writes s bs h = rw (le-ltb (length s) buffer_least h)
 
 -- ---- the message data that a user is delivered: the root's bits behind a bit 0, whatever the extension bit was
 
-pub send_delivered : (pdus : PduType) (s : List ℕ) (d : Data) → apdu_at pdus (lent s) 0 ≡ decoded.Is (apdu.Send d)
+pub send_delivered : (pdus : PduType) (s : List ℕ) (d : Data) → apdu_at pdus (lent s) 0 ≡ Ok (apdu.Send d)
     → content_bits (content_in (lent s) (lent s) (lent s) d) ≡ bits_n 1 0 ++ take (root_end d - (width pdus + 1))
     (drop (width pdus + 1) (lent s))
 send_delivered pdus s d e =
     let i = apdu_read pdus (lent s) 0 (apdu.Send d) (bits_to_is s all_bits) e in
     rw (length_alternative pdus 3) at (led_content (lent s) (index_bits (last_of pdus) 3) i.place d i.stands)
 
-pub start_delivered : (pdus : PduType) (s : List ℕ) (m : ℕ) (d : Data) → apdu_at pdus (lent s) 0 ≡ decoded.Is (apdu.Start m d)
+pub start_delivered : (pdus : PduType) (s : List ℕ) (m : ℕ) (d : Data) → apdu_at pdus (lent s) 0 ≡ Ok (apdu.Start m d)
     → content_bits (content_in (lent s) (lent s) (lent s) d) ≡ bits_n 1 0 ++ take
     (root_end d - (width pdus + length (mode_bits pdus m) + 1))
     (drop (width pdus + length (mode_bits pdus m) + 1) (lent s))
@@ -494,7 +487,7 @@ start_delivered pdus s m d e =
 
 -- and so, without additions, bits of the APDU
 pub send_plain : (pdus : PduType) (s : List ℕ) (d : Data) → extended pdus (lent s) (apdu.Send d) ≡ false
-    → apdu_at pdus (lent s) 0 ≡ decoded.Is (apdu.Send d)
+    → apdu_at pdus (lent s) 0 ≡ Ok (apdu.Send d)
     → content_bits (content_in (lent s) (lent s) (lent s) d) ≡ take
     (length (content_bits (content_in (lent s) (lent s) (lent s) d))) (drop (width pdus) (lent s))
 unfolding pdu_bits pdu_in
@@ -506,7 +499,7 @@ send_plain pdus s d x e =
     sym (rw p at h)
 
 pub start_plain : (pdus : PduType) (s : List ℕ) (m : ℕ) (d : Data) → extended pdus (lent s) (apdu.Start m d) ≡ false
-    → apdu_at pdus (lent s) 0 ≡ decoded.Is (apdu.Start m d)
+    → apdu_at pdus (lent s) 0 ≡ Ok (apdu.Start m d)
     → content_bits (content_in (lent s) (lent s) (lent s) d) ≡ take
     (length (content_bits (content_in (lent s) (lent s) (lent s) d)))
     (drop (width pdus + length (mode_bits pdus m)) (lent s))
@@ -521,7 +514,7 @@ start_plain pdus s m d x e =
     omega (arith, length_alternative pdus 2) in
     sym (rw p at h)
 
-pub forward_delivered : (s : List ℕ) (f : Forward) → apdu_at GroundPdus (lent s) 0 ≡ decoded.Is (apdu.Forward f)
+pub forward_delivered : (s : List ℕ) (f : Forward) → apdu_at GroundPdus (lent s) 0 ≡ Ok (apdu.Forward f)
     → forward_bits f.heading (items_in (lent s) bit f.message) ≡ take
     (length (forward_bits f.heading (items_in (lent s) bit f.message))) (drop (width GroundPdus) (lent s))
 unfolding pdu_bits pdu_in extended
@@ -537,7 +530,7 @@ forward_delivered s f e =
 
 pub record ForwardWhole (l : List ℕ) (h : Heading) (m : List ℕ) : Type 0 where
   pub value : Forward
-  pub read : whole_forward l ≡ forwarded.Is value (length (forward_bits h m))
+  pub read : whole_forward l ≡ Ok (value, length (forward_bits h m))
   pub heading : value.heading ≡ h
   pub message : items_in l bit value.message ≡ m
 

@@ -1,21 +1,18 @@
 -- Laws of the writers, as the code has them: one run after the other is both, and the padding last.
 -- Assumes nothing.
 use mathlib.Core.Path.{◌≡◌, refl, ap, sym, ◌∙◌}
-use mathlib.Core.Bool.{Bool, true, false, ◌&&◌}
+use mathlib.Core.Bool.{Bool, true, false, cond, ◌&&◌}
 use mathlib.Core.List.{List, [], ◌++◌, append_assoc}
 use Prim.Native.Nat.{ℕ, ◌+◌, ◌*◌, ◌/◌, ◌^◌, ◌≤◌, ◌<◌}
 use native.Mathlib.Omega.{arith}
-use native.Mathlib.Decide.{dec_lt}
-use borrow.Author.Tests.{le-leb, le-ltb, lt-ltb, eq-eqb, ne_eqb, leb-true}
-use lib.Dec.{leb}
+use borrow.Author.Tests.{le-leb, le-ltb, lt-ltb, leb-true, ltb-false}
+use lib.Dec.{leb, ltb}
 use lib.ListN.{length, length-append}
 use lib.Arith.{digits_lt}
 use lib.Pow.{pow-add, pow_pos}
 use Rattle.words.proofs.Laws.{both_left, both_right}
 use Rattle.bits.specs.Bits.{bits_n, bits_to, run}
 use Rattle.bits.specs.Put.{Left, left, put_bits, put_run, put_if, put_number, copy_run}
-use Rattle.bits.specs.declared.Put.{Put}
-use Rattle.bits.specs.declared.Put.TheVariants.{Next}
 use Rattle.bits.proofs.Numbers.{length_bits_n, bits_n_split}
 use Rattle.bits.proofs.Bytes.{length_to, length_run, run_to}
 use Rattle.bits.proofs.Putting.{put_append, put_fits, put_if_yes, put_then, length_put}
@@ -27,17 +24,17 @@ use Rattle.fields.proofs.Writers.{as_number, in_range, length_index}
 use Rattle.apdu.specs.Sizes.{buffer_least, message_most, mode_last, all_bits, length_most, octet, bit}
 use Rattle.apdu.specs.Pdus.{last_of, forwards, lent, items_in, part_in, content_in}
 use Rattle.apdu.specs.Encoding.{alternative, string_bits, optional_bits, presence, content_bits, mode_bits, mode_fits, padding, padded}
-use Rattle.apdu.specs.Writing.{items_fit, part_fits, data_fits, run_within, there, place_of, done, write_out}
+use Rattle.apdu.specs.Writing.{items_fit, part_fits, data_fits, run_within, there, RoomFor, Goes, place_of, done, writable, write_out}
 use Rattle.pdus.specs.declared.PduType.{PduType}
 use Rattle.pdus.specs.declared.PduType.TheVariants.{AircraftPdus, GroundPdus}
 use Rattle.pdus.specs.declared.Span.{Span}
-use Rattle.apdu.specs.declared.Part.{Part}
-use Rattle.apdu.specs.declared.Part.TheVariants.{Absent, Given}
 use Rattle.apdu.specs.declared.Data.{Data}
 use Rattle.apdu.specs.declared.Kind.TheVariants as kind
-use Rattle.apdu.specs.declared.Written.{Written}
-use Rattle.apdu.specs.declared.Written.TheVariants as written
 use Rattle.apdu.proofs.Bounds.{never, counted, items_fits, fits_items, string_is, data_value_fits, content_most_is}
+use Rattle.std.specs.Prelude.{Err, None, Ok, Option, Result, Some}
+use Rattle.words.specs.declared.Unwritten.{Unwritten}
+use Rattle.words.specs.declared.Unwritten.TheVariants.{Room}
+use Rattle.words.specs.declared.Unwritten.TheVariants.{Shape}
 
 -- ---- one run after the other
 
@@ -46,12 +43,12 @@ pub record On (s z : List ℕ) (e at p : ℕ) (xs ys : List ℕ) : Type 0 where
   pub whole : put_run z e p ys ≡ put_run s e at (xs ++ ys)
 
 -- where both fit: there is room for the second at the place after the first, and to write it there is to write both
-pub put_on : (s z : List ℕ) (e at p : ℕ) (xs ys : List ℕ) (r : Put) → at + length (xs ++ ys) ≤ length (bits_to s e)
+pub put_on : (s z : List ℕ) (e at p : ℕ) (xs ys : List ℕ) (r : Option ℕ) → at + length (xs ++ ys) ≤ length (bits_to s e)
     → left r z ≡ put_run s e at xs → p ≡ place_of r → On s z e at p xs ys
 put_on s z e at p xs ys r h w q =
     let n : length (xs ++ ys) ≡ length xs + length ys = length-append xs ys in
-    let f : left r z ≡ left (Next (at + length xs)) (put_bits s at xs) = w ∙ put_fits s e at xs (omega arith) in
-    let a : r ≡ Next (at + length xs) = ap (λ (l : Left). l.answer) f in
+    let f : left r z ≡ left (Some (at + length xs)) (put_bits s at xs) = w ∙ put_fits s e at xs (omega arith) in
+    let a : r ≡ Some (at + length xs) = ap (λ (l : Left). l.answer) f in
     let b : z ≡ put_bits s at xs = ap (λ (l : Left). l.bytes) f in
     let k : length (bits_to z e) ≡ length (bits_to s e) = rw (b, length_to, length_to, length_put) in
     let i : p ≡ at + length xs = q ∙ ap place_of a in
@@ -65,13 +62,10 @@ number_run s o e at n v h g p = p ∙ as_number s e at n v true (bits_n n v) h g
 
 -- ---- runs that went out: the place after them, and the bytes
 
-abbrev pub Goes : List ℕ → List ℕ → ℕ → ℕ → List ℕ → Type 0
-Goes s z at p bs = (p ≡ at + length bs) × (z ≡ put_bits s at bs)
-
-pub placed : (s z : List ℕ) (at p : ℕ) (bs : List ℕ) (r : Put) → at + length bs ≤ length (bits_to s all_bits)
+pub placed : (s z : List ℕ) (at p : ℕ) (bs : List ℕ) (r : Option ℕ) → at + length bs ≤ length (bits_to s all_bits)
     → left r z ≡ put_run s all_bits at bs → p ≡ place_of r → Goes s z at p bs
 placed s z at p bs r h w q =
-    let f : left r z ≡ left (Next (at + length bs)) (put_bits s at bs) = w ∙ put_fits s all_bits at bs h in
+    let f : left r z ≡ left (Some (at + length bs)) (put_bits s at bs) = w ∙ put_fits s all_bits at bs h in
     (q ∙ ap (λ (l : Left). place_of l.answer) f, ap (λ (l : Left). l.bytes) f)
 
 pub same_bits : (s z : List ℕ) (at p : ℕ) (xs ys : List ℕ) → xs ≡ ys → Goes s z at p xs → Goes s z at p ys
@@ -96,19 +90,12 @@ room_before s at xs ys h =
     let n = length-append xs ys in
     omega arith
 
--- from the first bit on
-pub from_start : (s z : List ℕ) (p : ℕ) (bs : List ℕ) → Goes s z 0 p bs → (p ≡ length bs) × (z ≡ put_bits s 0 bs)
-from_start s z p bs g = (omega (arith, g.0), g.1)
-
 -- the same as the answer of a writer
-pub as_answer : (s z : List ℕ) (p : ℕ) (bs : List ℕ) → length bs ≤ length (bits_to s all_bits)
-    → (p ≡ length bs) × (z ≡ put_bits s 0 bs) → left (Next p) z ≡ put_run s all_bits 0 bs
-as_answer s z p bs h g =
-    let e : length bs ≡ 0 + length bs = omega arith in
-    rw (g.0, g.1, e) (sym (put_fits s all_bits 0 bs (omega arith)))
+pub as_answer : (s z : List ℕ) (p : ℕ) (bs : List ℕ) → RoomFor s 0 bs → Goes s z 0 p bs → left (Some p) z ≡ put_run s all_bits 0 bs
+as_answer s z p bs h g = rw (g.0, g.1) (sym (put_fits s all_bits 0 bs h))
 
 -- behind a number of a few bits that went out by itself
-module _ (s y bs : List ℕ) (lead led p : ℕ) (r : Put) (few : lead ≤ 5) (low : led < 2 ^ lead) (room : length (bits_n lead led ++ bs) ≤ length (bits_to s all_bits))
+module _ (s y bs : List ℕ) (lead led p : ℕ) (r : Option ℕ) (few : lead ≤ 5) (low : led < 2 ^ lead) (room : RoomFor s 0 (bits_n lead led ++ bs))
     (w : left r y ≡ put_number s all_bits 0 lead led) (q : p ≡ place_of r) where
   led_goes : Goes s y 0 p (bits_n lead led)
   led_goes = placed s y 0 p (bits_n lead led) r (room_before s 0 (bits_n lead led) bs (omega arith))
@@ -154,17 +141,17 @@ wider l unit least most x h =
     let c = counted least most x.count s.fits in
     fits_items l unit 0 length_most x (record { fits = rw (le-leb 0 x.count (omega arith), le-leb x.count length_most (omega arith), lt-ltb x.count 16384 c.small); held = s.held })
 
-pub part_wider : (l : List ℕ) (unit least most : ℕ) (p : Part) → part_fits l unit least most p ≡ true → part_fits l unit 0 length_most p ≡ true
+pub part_wider : (l : List ℕ) (unit least most : ℕ) (p : Option Span) → part_fits l unit least most p ≡ true → part_fits l unit 0 length_most p ≡ true
 unfolding part_fits
-part_wider l unit least most Absent h = refl
-part_wider l unit least most (Given x) h = wider l unit least most x h
+part_wider l unit least most None h = refl
+part_wider l unit least most (Some x) h = wider l unit least most x h
 
-pub given_fits_is : (l : List ℕ) (unit most : ℕ) (p : Part) (x : Span) → p ≡ Given x → part_fits l unit 0 most p ≡ true
+pub given_fits_is : (l : List ℕ) (unit most : ℕ) (p : Option Span) (x : Span) → p ≡ Some x → part_fits l unit 0 most p ≡ true
     → items_fit l unit 0 most x ≡ true
 unfolding part_fits
 given_fits_is l unit most p x q h = rw q at h
 
-pub identifier_fits : (l : List ℕ) (unit least most : ℕ) (p : Part) (x : Span) → p ≡ Given x
+pub identifier_fits : (l : List ℕ) (unit least most : ℕ) (p : Option Span) (x : Span) → p ≡ Some x
     → part_fits l unit least most p ≡ true → items_fit l unit 0 length_most x ≡ true
 unfolding part_fits
 identifier_fits l unit least most p x q h = wider l unit least most x (rw q at h)
@@ -176,45 +163,45 @@ pub unled : (bs : List ℕ) → bits_n 0 0 ++ bs ≡ bs
 unfolding bits_n
 unled bs = refl
 
-none_bits : (l : List ℕ) (unit : ℕ) (p : Part) → p ≡ Absent → optional_bits unit (part_in l unit p) ≡ []
+none_bits : (l : List ℕ) (unit : ℕ) (p : Option Span) → p ≡ None → optional_bits unit (part_in l unit p) ≡ []
 unfolding optional_bits part_in
 none_bits l unit p q = rw q
 
-some_bits : (l : List ℕ) (unit : ℕ) (p : Part) (x : Span) → p ≡ Given x
+some_bits : (l : List ℕ) (unit : ℕ) (p : Option Span) (x : Span) → p ≡ Some x
     → optional_bits unit (part_in l unit p) ≡ string_bits unit (items_in l unit x)
 unfolding optional_bits part_in
 some_bits l unit p x q = rw q
 
-module _ (lm k lead : List ℕ) (p : Part) where
-  pub message_none : p ≡ Absent → lead ++ k ≡ lead ++ (optional_bits bit (part_in lm bit p) ++ k)
+module _ (lm k lead : List ℕ) (p : Option Span) where
+  pub message_none : p ≡ None → lead ++ k ≡ lead ++ (optional_bits bit (part_in lm bit p) ++ k)
   message_none q = rw (none_bits lm bit p q)
 
-  pub message_some : (x : Span) → p ≡ Given x
+  pub message_some : (x : Span) → p ≡ Some x
       → (lead ++ string_bits bit (items_in lm bit x)) ++ (bits_n 0 0 ++ k) ≡ lead ++ (optional_bits bit (part_in lm bit p) ++ k)
   message_some x q = rw (some_bits lm bit p x q, unled, append_assoc)
 
-  pub none_room : (at n : ℕ) → p ≡ Absent → at + length (lead ++ (optional_bits bit (part_in lm bit p) ++ k)) ≤ n
+  pub none_room : (at n : ℕ) → p ≡ None → at + length (lead ++ (optional_bits bit (part_in lm bit p) ++ k)) ≤ n
       → at + length (lead ++ k) ≤ n
   none_room at n q h = rw (message_none q) h
 
-  pub some_room : (at n : ℕ) (x : Span) → p ≡ Given x
+  pub some_room : (at n : ℕ) (x : Span) → p ≡ Some x
       → at + length (lead ++ (optional_bits bit (part_in lm bit p) ++ k)) ≤ n
       → at + length ((lead ++ string_bits bit (items_in lm bit x)) ++ (bits_n 0 0 ++ k)) ≤ n
   some_room at n x q h = rw (message_some x q) h
 
-  pub some_room_first : (s : List ℕ) (at : ℕ) (x : Span) → p ≡ Given x
+  pub some_room_first : (s : List ℕ) (at : ℕ) (x : Span) → p ≡ Some x
       → at + length (lead ++ (optional_bits bit (part_in lm bit p) ++ k)) ≤ length (bits_to s all_bits)
       → at + length (lead ++ string_bits bit (items_in lm bit x)) ≤ length (bits_to s all_bits)
   some_room_first s at x q h = room_before s at (lead ++ string_bits bit (items_in lm bit x)) (bits_n 0 0 ++ k) (some_room at _ x q h)
 
-pub there_lt : (p : Part) → there p < 2
-there_lt Absent = omega arith
-there_lt (Given x) = omega arith
+pub there_lt : (p : Option Span) → there p < 2
+there_lt None = omega arith
+there_lt (Some x) = omega arith
 
-presence_there : (l : List ℕ) (unit : ℕ) (p : Part) → presence (part_in l unit p) ≡ there p
+presence_there : (l : List ℕ) (unit : ℕ) (p : Option Span) → presence (part_in l unit p) ≡ there p
 unfolding part_in
-presence_there l unit Absent = refl
-presence_there l unit (Given x) = refl
+presence_there l unit None = refl
+presence_there l unit (Some x) = refl
 
 -- the extension bit and the presence bits, with the number before them
 front : (lead led n : ℕ) → n < 4 → bits_n (lead + 3) (led * 8 + n) ≡ bits_n lead led ++ (bits_n 1 0 ++ bits_n 2 n)
@@ -246,30 +233,30 @@ module _ (li lm lc : List ℕ) (d : Data) (lead led a b : ℕ) (ta : a ≡ there
       (bits_n 1 0 ++ bits_n 2 (2 * presence (part_in li octet d.identifier) + presence (part_in lm bit d.message)))
   waits = front lead led (2 * a + b) shown_lt ∙ rw shown
 
-  pub no_identifier : d.identifier ≡ Absent
+  pub no_identifier : d.identifier ≡ None
       → bits_n (lead + 3) (led * 8 + (2 * a + b)) ++
       (optional_bits bit (part_in lm bit d.message) ++ string_bits bit (items_in lc bit d.check)) ≡ bits_n lead led
       ++ content_bits (content_in li lm lc d)
   no_identifier q = rw (waits, append_assoc, append_assoc, content_is, none_bits li octet d.identifier q)
 
-  pub an_identifier : (x : Span) → d.identifier ≡ Given x
+  pub an_identifier : (x : Span) → d.identifier ≡ Some x
       → (bits_n (lead + 3) (led * 8 + (2 * a + b)) ++ string_bits octet (items_in li octet x)) ++
       (bits_n 0 0 ++ (optional_bits bit (part_in lm bit d.message) ++ string_bits bit (items_in lc bit d.check))) ≡
       bits_n lead led ++ content_bits (content_in li lm lc d)
   an_identifier x q = rw (waits, unled, append_assoc, append_assoc, append_assoc, content_is, some_bits li octet d.identifier x q)
 
-  pub no_identifier_room : (n : ℕ) → d.identifier ≡ Absent → length (bits_n lead led ++ content_bits (content_in li lm lc d)) ≤ n
+  pub no_identifier_room : (n : ℕ) → d.identifier ≡ None → 0 + length (bits_n lead led ++ content_bits (content_in li lm lc d)) ≤ n
       → 0 + length (bits_n (lead + 3) (led * 8 + (2 * a + b)) ++
       (optional_bits bit (part_in lm bit d.message) ++ string_bits bit (items_in lc bit d.check))) ≤ n
   no_identifier_room n q h = rw (no_identifier q) (omega arith)
 
-  pub an_identifier_room : (n : ℕ) (x : Span) → d.identifier ≡ Given x → length (bits_n lead led ++ content_bits (content_in li lm lc d)) ≤ n
+  pub an_identifier_room : (n : ℕ) (x : Span) → d.identifier ≡ Some x → 0 + length (bits_n lead led ++ content_bits (content_in li lm lc d)) ≤ n
       → 0 + length ((bits_n (lead + 3) (led * 8 + (2 * a + b)) ++ string_bits octet (items_in li octet x)) ++ (bits_n 0 0 ++
       (optional_bits bit (part_in lm bit d.message) ++ string_bits bit (items_in lc bit d.check)))) ≤ n
   an_identifier_room n x q h = rw (an_identifier x q) (omega arith)
 
-  pub identifier_room : (s : List ℕ) (x : Span) → d.identifier ≡ Given x
-      → length (bits_n lead led ++ content_bits (content_in li lm lc d)) ≤ length (bits_to s all_bits)
+  pub identifier_room : (s : List ℕ) (x : Span) → d.identifier ≡ Some x
+      → RoomFor s 0 (bits_n lead led ++ content_bits (content_in li lm lc d))
       → 0 + length (bits_n (lead + 3) (led * 8 + (2 * a + b)) ++ string_bits octet (items_in li octet x)) ≤ length (bits_to s all_bits)
   identifier_room s x q h = room_before s 0
       (bits_n (lead + 3) (led * 8 + (2 * a + b)) ++ string_bits octet (items_in li octet x)) _ (an_identifier_room _ x q h)
@@ -314,6 +301,9 @@ pub index_run : (s : List ℕ) (o : Left) (at last i : ℕ) → i ≤ last
     → o ≡ put_if (whole_fits 0 last i) s all_bits at (index_bits last i) → o ≡ put_run s all_bits at (index_bits last i)
 index_run s o at last i h p = p ∙ put_if_yes _ s all_bits at (index_bits last i) (in_range 0 last i (omega arith) h)
 
+pub from_zero : (hi v : ℕ) → leb v hi ≡ whole_fits 0 hi v
+from_zero hi v = rw (le-leb 0 v (omega arith))
+
 -- an alternative that both types have
 pub both_have : (pdus : PduType) (i : ℕ) → i ≤ 3 → i ≤ last_of pdus
 both_have AircraftPdus i h = h
@@ -332,7 +322,7 @@ ground_four GroundPdus y = refl
 pub choice_pads : (last i most v : ℕ) → length (index_bits last i ++ index_bits most v) + 7 ≤ 8 * buffer_least
 choice_pads last i most v = rw (length-append, length_index, length_index) (omega (arith, width_most 64 last, width_most 64 most))
 
-pub choice_put : (s z : List ℕ) (o : Left) (p last i most v : ℕ) (r : Put) → buffer_least ≤ length s → i ≤ last → v ≤ most
+pub choice_put : (s z : List ℕ) (o : Left) (p last i most v : ℕ) (r : Option ℕ) → buffer_least ≤ length s → i ≤ last → v ≤ most
     → left r z ≡ put_if (whole_fits 0 last i) s all_bits 0 (index_bits last i) → p ≡ place_of r → o ≡ put_if
     (whole_fits 0 most v) z all_bits p (index_bits most v)
     → o ≡ put_run s all_bits 0 (index_bits last i ++ index_bits most v)
@@ -343,30 +333,44 @@ choice_put s z o p last i most v r b h g w q k =
 
 -- ---- the padding, and the answer
 
-pub too_small : (s bs : List ℕ) (ok : Bool) → length s < buffer_least → done written.Room s ≡ write_out ok s bs
-unfolding write_out
-too_small s bs ok h = rw (lt-ltb (length s) buffer_least h)
+-- a buffer that may be written to: it is large enough, and the value is right
+pub record Right (s : List ℕ) (ok : Bool) : Type 0 where
+  pub room : buffer_least ≤ length s
+  pub right : ok ≡ true
 
-pub not_fitting : (s bs : List ℕ) (t ok : Bool) → buffer_least ≤ length s → t ≡ ok → t ≡ false → done written.Shape s ≡ write_out ok s bs
-unfolding write_out
-not_fitting s bs t ok h p q = rw (le-ltb (length s) buffer_least h, ← p, q)
+module _ (s : List ℕ) (t : Bool) (r : Result (Unit {0}) Unwritten) (p : r ≡ writable (length s) t) where
+  pub may_write : (ok : Bool) (u : Unit {0}) → t ≡ ok → r ≡ Ok u → Right s ok
+  may_write ok u q e = go (ltb (length s) buffer_least) t refl refl (sym p ∙ e)
+    where
+      go : (x y : Bool) → ltb (length s) buffer_least ≡ x → t ≡ y → cond {A = Result (Unit {0}) Unwritten} x (Err Room) (cond y (Ok tt) (Err Shape)) ≡ Ok u → Right s ok
+      go true y a b k = never (cc)
+      go false true a b k = record { room = ltb-false (length s) buffer_least a; right = sym q ∙ b }
+      go false false a b k = never (cc)
 
-pub turned_away : (s bs : List ℕ) (ok : Bool) (w : Written)
-    → (length s < buffer_least → w ≡ written.Room) × (buffer_least ≤ length s → w ≡ written.Shape) → ok ≡ false
-    → done w s ≡ write_out ok s bs
-turned_away s bs ok w h f =
-    elim (dec_lt (length s) buffer_least) [
-      | yes k ↦ ap (λ (x : Written). done x s) (h.0 k) ∙ too_small s bs ok k
-      | no k ↦ ap (λ (x : Written). done x s) (h.1 (omega arith)) ∙ not_fitting s bs false ok (omega arith) (sym f) refl
-    ]
+  pub turned_away : (bs : List ℕ) (ok : Bool) (e : Unwritten) (w : Result ℕ Unwritten) → r ≡ Err e → w ≡ Err e → (t ≡ false → ok ≡ false)
+      → done w s ≡ write_out ok s bs
+  unfolding write_out
+  turned_away bs ok e w h k f = go (ltb (length s) buffer_least) t refl refl (sym p ∙ h)
+    where
+      go : (x y : Bool) → ltb (length s) buffer_least ≡ x → t ≡ y → cond {A = Result (Unit {0}) Unwritten} x (Err Room) (cond y (Ok tt) (Err Shape)) ≡ Err e
+          → done w s ≡ cond (ltb (length s) buffer_least) (done (Err Room) s) (cond ok (done (Ok (length bs)) (put_bits s 0 (padded bs))) (done (Err Shape) s))
+      go true y a b g =
+          let z : Room ≡ e = cc in
+          let q : w ≡ Err Room = k ∙ ap Err (sym z) in
+          ap (λ (x : Result ℕ Unwritten). done x s) q ∙ rw a
+      go false true a b g = never (cc)
+      go false false a b g =
+          let z : Shape ≡ e = cc in
+          let q : w ≡ Err Shape = k ∙ ap Err (sym z) in
+          ap (λ (x : Result ℕ Unwritten). done x s) q ∙ rw (a, f b)
 
-pub written_out : (s z z' bs : List ℕ) (t ok : Bool) (n w : ℕ) (r r' : Put) → buffer_least ≤ length s
+pub written_out : (s z z' bs : List ℕ) (t ok : Bool) (n w : ℕ) (r r' : Option ℕ) → buffer_least ≤ length s
     → length bs + 7 ≤ 8 * buffer_least → t ≡ ok → t ≡ true
     → left r z ≡ put_run s all_bits 0 bs → n ≡ place_of r → w ≡ padding n → left r' z' ≡ put_number z all_bits n w 0
-    → done (written.Bits n) z' ≡ write_out ok s bs
+    → done (Ok n) z' ≡ write_out ok s bs
 unfolding write_out padded
 written_out s z z' bs t ok n w r r' h g p q a i j k =
-    let f : left r z ≡ left (Next (0 + length bs)) (put_bits s 0 bs) = a ∙ put_fits s all_bits 0 bs
+    let f : left r z ≡ left (Some (0 + length bs)) (put_bits s 0 bs) = a ∙ put_fits s all_bits 0 bs
     (room_for s (0 + length bs) h (omega arith)) in
     let e : n ≡ length bs = i ∙ ap (λ (l : Left). place_of l.answer) f ∙ (omega arith) in
     let b : z ≡ put_bits s 0 bs = ap (λ (l : Left). l.bytes) f in
@@ -377,7 +381,7 @@ written_out s z z' bs t ok n w r r' h g p q a i j k =
     let c : left r' z' ≡ put_run z all_bits n (bits_n (padding (length bs)) 0) = number_run z (left r' z') all_bits n w 0
     (omega arith) (pow_pos w) k ∙ ap (λ (m : ℕ). put_run z all_bits n (bits_n m 0)) jj in
     let o = put_on s z all_bits 0 n bs (bits_n (padding (length bs)) 0) r room a i in
-    let u : left r' z' ≡ left (Next (0 + length (bs ++ bits_n (padding (length bs)) 0)))
+    let u : left r' z' ≡ left (Some (0 + length (bs ++ bits_n (padding (length bs)) 0)))
     (put_bits s 0 (bs ++ bits_n (padding (length bs)) 0)) = c ∙ o.whole ∙ put_fits s all_bits 0 _ room in
     let v : z' ≡ put_bits s 0 (bs ++ bits_n (padding (length bs)) 0) = ap (λ (l : Left). l.bytes) u in
     rw (le-ltb (length s) buffer_least h, ← p, q, e, v)
@@ -388,7 +392,7 @@ module _ (li lm lc : List ℕ) (d : Data) (lead led : ℕ) (few : lead ≤ 5) (h
   data_pads = rw (length-append, length_bits_n) (omega (arith, content_most_is (content_in li lm lc d) (data_value_fits li lm lc d h)))
 
   pub data_room : (s : List ℕ) → buffer_least ≤ length s
-      → length (bits_n lead led ++ content_bits (content_in li lm lc d)) ≤ length (bits_to s all_bits)
+      → RoomFor s 0 (bits_n lead led ++ content_bits (content_in li lm lc d))
   data_room s b = room_for s _ b (omega (arith, data_pads))
 
 -- a run that lent bytes hold is copied as its bits are put
@@ -411,7 +415,7 @@ run_pads most s at n g h =
     let w : at + n ≤ 8 * length s = omega (arith, p.there, length_to s all_bits) in
     omega (arith, p.few, length_run s at n w)
 
-pub run_copied : (most : ℕ) (d s z : List ℕ) (at n : ℕ) (r : Put) → run_within most s at n ≡ true
+pub run_copied : (most : ℕ) (d s z : List ℕ) (at n : ℕ) (r : Option ℕ) → run_within most s at n ≡ true
     → left r z ≡ copy_run d all_bits 0 s all_bits at n → left r z ≡ put_run d all_bits 0 (run s at n)
 unfolding copy_run put_if
 run_copied most d s z at n r h e = e ∙ rw (le-leb (at + n) (length (lent s)) (run_is most s at n h).there)

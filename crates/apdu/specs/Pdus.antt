@@ -1,5 +1,5 @@
 -- AircraftPDUs and GroundPDUs (Doc 9705, 2.3.4.2) as values, and the values that places in lent bytes stand for.
-use Rattle.std.specs.Prelude.{ℕ, zero, suc, ◌*◌, List, Bool, true, false, take, drop}
+use Rattle.std.specs.Prelude.{ℕ, zero, suc, ◌*◌, List, Bool, true, false, take, drop, None, Option, Some}
 use Rattle.bits.specs.Bits.{bits_to}
 use Rattle.apdu.specs.Sizes.{all_bits, octet, bit}
 use Rattle.pdus.specs.declared.PduType.{PduType}
@@ -7,8 +7,6 @@ use Rattle.pdus.specs.declared.PduType.TheVariants.{AircraftPdus, GroundPdus}
 use Rattle.apdu.specs.declared.Kind.{Kind}
 use Rattle.apdu.specs.declared.Kind.TheVariants as kind
 use Rattle.pdus.specs.declared.Span.{Span}
-use Rattle.apdu.specs.declared.Part.{Part}
-use Rattle.apdu.specs.declared.Part.TheVariants.{Absent, Given}
 use Rattle.apdu.specs.declared.Data.{Data}
 use Rattle.apdu.specs.declared.Heading.{Heading}
 use Rattle.apdu.specs.declared.Forward.{Forward}
@@ -79,9 +77,9 @@ lent s = bits_to s all_bits
 abbrev pub items_in : List ℕ → ℕ → Span → List ℕ
 items_in l unit x = take (unit * x.count) (drop x.at l)
 
-unfoldable pub part_in : List ℕ → ℕ → Part → Optional
-part_in l unit Absent = absent
-part_in l unit (Given x) = given (items_in l unit x)
+unfoldable pub part_in : List ℕ → ℕ → Option Span → Optional
+part_in l unit None = absent
+part_in l unit (Some x) = given (items_in l unit x)
 
 -- the parts of message data, each in the bits that it stands in
 unfoldable pub content_in : List ℕ → List ℕ → List ℕ → Data → Content

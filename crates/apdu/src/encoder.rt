@@ -1,6 +1,5 @@
 // An APDU written: what stands before the fields of each alternative waits for the first of them.
-ghost use Rattle.std.specs.Prelude.{◌≡◌, true, ◌&&◌, ◌++◌, ◌^◌, ◌≤◌, ◌<◌};
-ghost use Rattle.bits.specs.Bits.{bits_n};
+ghost use Rattle.std.specs.Prelude.{◌≡◌, true, ◌&&◌, ◌++◌, ◌≤◌};
 ghost use Rattle.bits.specs.Put.{left, put_if};
 ghost use Rattle.fields.specs.Encodings.{index_bits, whole_fits};
 ghost use Rattle.apdu.specs.Sizes.{all_bits, bit, buffer_least, provider_last, user_last};
@@ -8,34 +7,28 @@ ghost use Rattle.apdu.specs.Headings.{response_last};
 ghost use Rattle.apdu.specs.Pdus.{abort_provider, abort_user, content_in, forward, forward_response, forwards, index_of, items_in, last_of, lent, pdu_in, send, start};
 ghost use Rattle.apdu.specs.Encoding.{alternative, mode_bits, mode_fits, pdu_bits};
 ghost use Rattle.apdu.specs.InPlace.{forward_by};
-ghost use Rattle.apdu.specs.Writing.{apdu_fits, data_fits, done, forward_fits, write_out};
+ghost use Rattle.apdu.specs.Writing.{Waits, apdu_fits, data_fits, done, forward_fits, waiting, write_out};
 
-use crate::data_writer::{place, write_data};
+use crate::data_writer::{place, writable, write_data};
 use crate::decoder::ALL;
 use crate::heading_writer::write_forward;
 use crate::leading::{index_of, last_of};
 use crate::shape::{has_forwards, mode_fits};
-use crate::{Apdu, Data, Forward, Kind, Written};
-use bits::Put;
+use crate::{Apdu, Data, Forward, Kind};
+use fields::Lead;
 use pdus::PduType;
-
-// Numbers that wait: how many bits they are together, and they as one.
-#[derive(Drop)]
-pub(crate) struct Front {
-    pub(crate) width: usize,
-    pub(crate) number: u64,
-}
+use words::Unwritten;
 
 // What stands before the message data of a send: the alternative, 0 11 or 0 011.
-pub(crate) fn send_front(pdus: PduType) -> Front
-    ensures { (result.width ≤ 5) × (result.number < 2 ^ result.width) × (bits_n result.width result.number ≡ alternative pdus Kind.Send) }
+pub(crate) fn send_front(pdus: PduType) -> Lead
+    ensures { Waits 5 result × (waiting result ≡ alternative pdus Kind.Send) }
 {
     match pdus {
-        PduType::AircraftPdus => Front {
+        PduType::AircraftPdus => Lead {
             width: 3,
             number: 3,
         },
-        PduType::GroundPdus => Front {
+        PduType::GroundPdus => Lead {
             width: 4,
             number: 3,
         },
@@ -44,23 +37,23 @@ pub(crate) fn send_front(pdus: PduType) -> Front
 
 // What stands before those of a start: the alternative, and the mode. startup: 0 010, with no mode. startdown: 0 10 and the presence bit, which is 0
 // for the default; else 1, and the mode.
-pub(crate) fn start_front(pdus: PduType, m: u64) -> Front
+pub(crate) fn start_front(pdus: PduType, m: u64) -> Lead
     requires { mode_fits pdus m ≡ true }
-    ensures { (result.width ≤ 5) × (result.number < 2 ^ result.width) × (bits_n result.width result.number ≡ alternative pdus Kind.Start ++ mode_bits pdus m) }
+    ensures { Waits 5 result × (waiting result ≡ alternative pdus Kind.Start ++ mode_bits pdus m) }
 {
     match pdus {
-        PduType::GroundPdus => Front {
+        PduType::GroundPdus => Lead {
             width: 4,
             number: 2,
         },
         PduType::AircraftPdus => {
             if m == 0 {
-                return Front {
+                return Lead {
                     width: 4,
                     number: 4,
                 };
             }
-            Front {
+            Lead {
                 width: 5,
                 number: 11,
             }
@@ -68,16 +61,7 @@ pub(crate) fn start_front(pdus: PduType, m: u64) -> Front
     }
 }
 
-// A value that is not right: a buffer under the least size comes first.
-pub(crate) fn refused(len: usize) -> Written
-    ensures { (len < buffer_least → result ≡ Written.Room) × (buffer_least ≤ len → result ≡ Written.Shape) }
-{
-    if len < Apdu::BUFFER {
-        return Written::Room;
-    }
-    Written::Shape
-}
-
+#[tactic(auto, unfolding(crate::specs::Encoding::pdu_bits))]
 pub fn put_send(
     buf: &mut [u8],
     pdus: PduType,
@@ -85,11 +69,10 @@ pub fn put_send(
     ids: &[u8],
     msgs: &[u8],
     checks: &[u8],
-) -> Written
+) -> Result<usize, Unwritten>
     ensures { done result buf.new ≡ write_out (data_fits (lent ids.now) (lent msgs.now) (lent checks.now) d) buf.old (pdu_bits pdus (send (content_in (lent ids.now) (lent msgs.now) (lent checks.now) d))) }
 {
-    let front = send_front(pdus);
-    write_data(buf, front.width, front.number, d, ids, msgs, checks)
+    write_data(buf, send_front(pdus), d, ids, msgs, checks)
 }
 
 pub fn put_start(
@@ -100,49 +83,47 @@ pub fn put_start(
     ids: &[u8],
     msgs: &[u8],
     checks: &[u8],
-) -> Written
+) -> Result<usize, Unwritten>
     ensures { done result buf.new ≡ write_out (mode_fits pdus m && data_fits (lent ids.now) (lent msgs.now) (lent checks.now) d) buf.old (pdu_bits pdus (start m (content_in (lent ids.now) (lent msgs.now) (lent checks.now) d))) }
 {
-    if mode_fits(pdus, m) {
-        let front = start_front(pdus, m);
-        return write_data(buf, front.width, front.number, d, ids, msgs, checks);
-    }
-    refused(buf.len())
+    writable(buf.len(), mode_fits(pdus, m))?;
+    write_data(buf, start_front(pdus, m), d, ids, msgs, checks)
 }
 
 // The alternative: its extension bit and its index.
-fn put_alternative(buf: &mut [u8], pdus: PduType, kind: Kind) -> Put
+fn put_alternative(buf: &mut [u8], pdus: PduType, kind: Kind) -> Option<usize>
     ensures { left result buf.new ≡ put_if (whole_fits 0 (last_of pdus) (index_of kind)) buf.old all_bits 0 (alternative pdus kind) }
 {
-    let i = index_of(kind);
-    let last = last_of(pdus);
-    fields::put_extensible_index(buf, ALL, 0, last, i)
+    fields::put_extensible_index(buf, ALL, 0, last_of(pdus), index_of(kind))
 }
 
 // An alternative that holds an index and nothing else.
-pub(crate) fn put_choice(buf: &mut [u8], pdus: PduType, kind: Kind, last: u64, v: u64) -> Written
+pub(crate) fn put_choice(
+    buf: &mut [u8],
+    pdus: PduType,
+    kind: Kind,
+    last: u64,
+    v: u64,
+) -> Result<usize, Unwritten>
     requires { index_of kind ≤ last_of pdus }
     ensures { done result buf.new ≡ write_out (whole_fits 0 last v) buf.old (alternative pdus kind ++ index_bits last v) }
 {
-    if buf.len() < Apdu::BUFFER {
-        return Written::Room;
-    }
-    if v <= last {
-        let p = place(put_alternative(buf, pdus, kind));
-        let n = place(fields::put_extensible_index(buf, ALL, p, last, v));
-        bits::pad(buf, ALL, n);
-        return Written::Bits(n);
-    }
-    Written::Shape
+    writable(buf.len(), v <= last)?;
+    let p = place(put_alternative(buf, pdus, kind));
+    let n = place(fields::put_extensible_index(buf, ALL, p, last, v));
+    bits::pad(buf, ALL, n);
+    Ok(n)
 }
 
-pub fn put_abort_user(buf: &mut [u8], pdus: PduType, reason: u64) -> Written
+#[tactic(auto, unfolding(crate::specs::Encoding::pdu_bits))]
+pub fn put_abort_user(buf: &mut [u8], pdus: PduType, reason: u64) -> Result<usize, Unwritten>
     ensures { done result buf.new ≡ write_out (whole_fits 0 user_last reason) buf.old (pdu_bits pdus (abort_user reason)) }
 {
     put_choice(buf, pdus, Kind::AbortUser, Apdu::USER_LAST, reason)
 }
 
-pub fn put_abort_provider(buf: &mut [u8], pdus: PduType, reason: u64) -> Written
+#[tactic(auto, unfolding(crate::specs::Encoding::pdu_bits))]
+pub fn put_abort_provider(buf: &mut [u8], pdus: PduType, reason: u64) -> Result<usize, Unwritten>
     ensures { done result buf.new ≡ write_out (whole_fits 0 provider_last reason) buf.old (pdu_bits pdus (abort_provider reason)) }
 {
     put_choice(buf, pdus, Kind::AbortProvider, Apdu::PROVIDER_LAST, reason)
@@ -155,31 +136,38 @@ pub fn put_forward_by(
     counted: bool,
     f: Forward,
     msgs: &[u8],
-) -> Written
+) -> Result<usize, Unwritten>
     ensures { done result buf.new ≡ write_out (forwards pdus && forward_fits (lent msgs.now) f) buf.old (alternative pdus Kind.Forward ++ forward_by counted f.heading (items_in (lent msgs.now) bit f.message)) }
 {
-    if has_forwards(pdus) {
-        return write_forward(buf, 4, 4, counted, f, msgs);
-    }
-    refused(buf.len())
+    writable(buf.len(), has_forwards(pdus))?;
+    let front = Lead {
+        width: 4,
+        number: 4,
+    };
+    write_forward(buf, front, counted, f, msgs)
 }
 
-pub fn put_forward_pdu(buf: &mut [u8], pdus: PduType, f: Forward, msgs: &[u8]) -> Written
+#[tactic(auto, unfolding(crate::specs::Encoding::pdu_bits))]
+pub fn put_forward_pdu(
+    buf: &mut [u8],
+    pdus: PduType,
+    f: Forward,
+    msgs: &[u8],
+) -> Result<usize, Unwritten>
     ensures { done result buf.new ≡ write_out (forwards pdus && forward_fits (lent msgs.now) f) buf.old (pdu_bits pdus (forward f.heading (items_in (lent msgs.now) bit f.message))) }
 {
     put_forward_by(buf, pdus, true, f, msgs)
 }
 
-pub fn put_forward_response(buf: &mut [u8], pdus: PduType, res: u64) -> Written
+pub fn put_forward_response(buf: &mut [u8], pdus: PduType, res: u64) -> Result<usize, Unwritten>
     ensures { done result buf.new ≡ write_out (forwards pdus && whole_fits 0 response_last res) buf.old (pdu_bits pdus (forward_response res)) }
 {
-    if has_forwards(pdus) {
-        return put_choice(buf, pdus, Kind::ForwardResponse, Apdu::RESPONSE_LAST, res);
-    }
-    refused(buf.len())
+    writable(buf.len(), has_forwards(pdus))?;
+    put_choice(buf, pdus, Kind::ForwardResponse, Apdu::RESPONSE_LAST, res)
 }
 
 // The APDU, whose identifier stands in ids, message in msgs and check in checks.
+#[tactic(auto, unfolding(crate::specs::Writing::apdu_fits, crate::specs::Pdus::pdu_in))]
 pub fn put_apdu(
     buf: &mut [u8],
     pdus: PduType,
@@ -187,7 +175,7 @@ pub fn put_apdu(
     ids: &[u8],
     msgs: &[u8],
     checks: &[u8],
-) -> Written
+) -> Result<usize, Unwritten>
     ensures { done result buf.new ≡ write_out (apdu_fits pdus (lent ids.now) (lent msgs.now) (lent checks.now) a) buf.old (pdu_bits pdus (pdu_in (lent ids.now) (lent msgs.now) (lent checks.now) a)) }
 {
     match a {

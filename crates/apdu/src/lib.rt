@@ -16,7 +16,6 @@ mod headings;
 mod in_place;
 mod leading;
 mod parts;
-mod refusals;
 mod shape;
 
 pub use data_writer::{put_data, put_passed, put_run};
@@ -29,11 +28,10 @@ pub use encoder::{
 use fields::Refusal;
 pub use heading_shape::forward_fits;
 pub use heading_writer::put_forward;
-pub use headings::{forward_refusal, heading_at, heading_refusal};
+pub use headings::heading_at;
 pub use in_place::{put_abort_within, put_send_in_place, put_start_in_place};
 pub use leading::leading_at;
 use pdus::{PduType, Span};
-pub use refusals::{lead_refusal, taken_refusal};
 pub use shape::data_fits;
 use words::Limit;
 
@@ -48,19 +46,12 @@ pub enum Kind {
     ForwardResponse,
 }
 
-// A field that may be absent.
-#[derive(Clone, Copy)]
-pub enum Part {
-    Absent,
-    Given(Span),
-}
-
 // Message data (ProtectedUplinkMessage, ProtectedDownlinkMessage): the algorithm identifier in octets, the CPDLC message and the integrity
 // check in bits.
 #[derive(Clone, Copy)]
 pub struct Data {
-    pub identifier: Part,
-    pub message: Part,
+    pub identifier: Option<Span>,
+    pub message: Option<Span>,
     pub check: Span,
 }
 
@@ -128,12 +119,10 @@ impl Heading {
     pub const CHARACTERS_LEAST: u64 = 2;
 
     pub const CHARACTERS_MOST: u64 = 8;
-    // Bits of a character, and of an address; how many addresses there are.
+    // Bits of a character, and of an address.
     pub const CHARACTER: usize = 7;
 
     pub const ADDRESS_BITS: usize = 24;
-
-    pub const ADDRESSES: u64 = 16777216;
 
     pub const DIRECTION_LAST: u64 = 1;
 }
@@ -171,55 +160,6 @@ impl Apdu {
     pub const PASSED_MOST: usize = 8 * Limit::BUFFER_BYTES - 7;
 }
 
-// What reading message data finds: its parts and the place after it.
-#[derive(Drop)]
-pub enum Taken {
-    Is(Data, usize),
-    Refused(Refusal),
-}
-
-// What reading three whole numbers finds, what stands before a forward message's bits, a forward message: it, and the place after it.
-#[derive(Drop)]
-pub enum Triples {
-    Is(Triple, usize),
-    Refused(Refusal),
-}
-
-#[derive(Drop)]
-pub enum Headed {
-    Is(Heading, usize),
-    Refused(Refusal),
-}
-
-#[derive(Drop)]
-pub enum Forwarded {
-    Is(Forward, usize),
-    Refused(Refusal),
-}
-
-// What the leading fields say: the kind, the mode (0 where the kind has none), and the place after them.
-#[derive(Drop)]
-pub enum Lead {
-    Is(Kind, u64, usize),
-    Refused(Refusal),
-}
-
-// What reading an APDU finds.
-#[derive(Drop)]
-pub enum Decoded {
-    Is(Apdu),
-    Refused(Refusal),
-}
-
-// What writing finds: the count of bits before the padding; or, with every byte as it was, a buffer under the least size, or an argument
-// that breaks a size, its type or its codes, or is more than the lent bytes hold.
-#[derive(Clone, Copy)]
-pub enum Written {
-    Bits(usize),
-    Room,
-    Shape,
-}
-
 // The reader: it holds the lent APDU and a bit position.
 #[derive(Drop)]
 pub struct Reader<'a> {
@@ -229,7 +169,7 @@ pub struct Reader<'a> {
 
 impl<'a> Reader<'a> {
     // The APDU at the position.
-    pub fn apdu(self, pdus: PduType) -> Decoded
+    pub fn apdu(self, pdus: PduType) -> Result<Apdu, Refusal>
         ensures { result ≡ apdu_at pdus (lent self.entry.src.now) self.entry.at }
     {
         apdu_at(self.src, self.at, pdus)
@@ -244,7 +184,7 @@ pub fn new<'a>(src: &'a [u8]) -> Reader<'a>
 }
 
 // The APDU that lent bytes are: for whoever holds no reader.
-pub fn read_apdu(s: &[u8], pdus: PduType) -> Decoded
+pub fn read_apdu(s: &[u8], pdus: PduType) -> Result<Apdu, Refusal>
     ensures { result ≡ apdu_at pdus (lent s.now) 0 }
 {
     new(s).apdu(pdus)

@@ -3,19 +3,20 @@ ghost use Rattle.std.specs.Prelude.{◌≡◌, ◌*◌, ◌≤◌};
 ghost use Rattle.apdu.specs.Pdus.{lent};
 ghost use Rattle.apdu.specs.Reading.{data_at, optional_at, part_at, parts_at, span_to, with_additions};
 
+use crate::Data;
 use crate::decoder::ALL;
-use crate::{Data, Part, Taken};
-use fields::{Field, refusal_of};
+use fields::Reading;
 use pdus::Span;
 
 // A field that is there, or not.
-fn optional(s: &[u8], there: bool, at: usize, unit: usize, least: u64, most: u64) -> Field
+#[tactic(auto, unfolding(crate::specs::Reading::optional_at))]
+fn optional(s: &[u8], there: bool, at: usize, unit: usize, least: u64, most: u64) -> Reading<u64>
     ensures { result ≡ optional_at (lent s.now) there at unit least most }
 {
     if there {
         return fields::string(s, ALL, at, unit, least, most);
     }
-    Field::Value(0, at)
+    Ok((0, at))
 }
 
 // n items that end at a place.
@@ -31,72 +32,56 @@ pub(crate) fn span_to(unit: usize, n: u64, next: usize) -> Span
 }
 
 // The part that they are, if they are there.
-fn part(there: bool, unit: usize, n: u64, next: usize) -> Part
+#[tactic(auto, unfolding(crate::specs::Reading::part_at))]
+fn part(there: bool, unit: usize, n: u64, next: usize) -> Option<Span>
     requires { unit * n ≤ next }
     ensures { result ≡ part_at there unit n next }
 {
     if there {
-        return Part::Given(span_to(unit, n, next));
+        return Some(span_to(unit, n, next));
     }
-    Part::Absent
+    None
 }
 
 // The fields, of which the first two are there or not.
-fn parts_at(s: &[u8], at: usize, identified: bool, messaged: bool) -> Taken
+#[tactic(auto, unfolding(crate::specs::Reading::parts_within))]
+fn parts_at(s: &[u8], at: usize, identified: bool, messaged: bool) -> Reading<Data>
     ensures { result ≡ parts_at (lent s.now) at identified messaged }
 {
-    let identifier = optional(
+    let (octets, p) = optional(
         s,
         identified,
         at,
         Data::OCTET,
         Data::IDENTIFIER_LEAST as u64,
         Data::IDENTIFIER_MOST as u64,
-    );
-    let Field::Value(octets, p) = identifier else {
-        return Taken::Refused(refusal_of(identifier));
-    };
-    let message = optional(s, messaged, p, Data::BIT, 0, Data::MESSAGE_MOST as u64);
-    let Field::Value(bits, q) = message else {
-        return Taken::Refused(refusal_of(message));
-    };
-    let check = fields::string(s, ALL, q, Data::BIT, 0, Data::CHECK_MOST as u64);
-    let Field::Value(n, next) = check else {
-        return Taken::Refused(refusal_of(check));
-    };
+    )?;
+    let (bits, q) = optional(s, messaged, p, Data::BIT, 0, Data::MESSAGE_MOST as u64)?;
+    let (n, next) = fields::string(s, ALL, q, Data::BIT, 0, Data::CHECK_MOST as u64)?;
     let data = Data {
         identifier: part(identified, Data::OCTET, octets, p),
         message: part(messaged, Data::BIT, bits, q),
         check: span_to(Data::BIT, n, next),
     };
-    Taken::Is(data, next)
+    Ok((data, next))
 }
 
 // Behind the fields: the additions from a later edition.
-fn with_additions(s: &[u8], parts: Taken) -> Taken
+#[tactic(auto, unfolding(crate::specs::Reading::with_additions))]
+fn with_additions(s: &[u8], parts: Reading<Data>) -> Reading<Data>
     ensures { result ≡ with_additions (lent s.now) parts }
 {
-    let Taken::Is(d, next) = parts else {
-        return parts;
-    };
-    let added = fields::additions(s, ALL, next);
-    let Field::Value(_, after) = added else {
-        return Taken::Refused(refusal_of(added));
-    };
-    Taken::Is(d, after)
+    let (d, next) = parts?;
+    let (_, after) = fields::additions(s, ALL, next)?;
+    Ok((d, after))
 }
 
-pub(crate) fn data_at(s: &[u8], at: usize) -> Taken
+#[tactic(auto, unfolding(crate::specs::Reading::data_within))]
+pub(crate) fn data_at(s: &[u8], at: usize) -> Reading<Data>
     ensures { result ≡ data_at (lent s.now) at }
 {
-    let extension = fields::bit_field(s, ALL, at, 1);
-    let Field::Value(e, p) = extension else {
-        return Taken::Refused(refusal_of(extension));
-    };
-    let presence = fields::bit_field(s, ALL, p, 2);
-    let Field::Value(v, q) = presence else {
-        return Taken::Refused(refusal_of(presence));
-    };
+    let (e, p) = fields::bit_field(s, ALL, at, 1)?;
+    let (v, q) = fields::bit_field(s, ALL, p, 2)?;
     let parts = parts_at(s, q, 2 <= v, v % 2 == 1);
     if e == 0 {
         return parts;

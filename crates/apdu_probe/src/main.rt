@@ -4,10 +4,11 @@
 
 ghost use Rattle.std.specs.Prelude.{◌^◌, ◌<◌, ◌≤◌, length};
 
-use apdu::{Apdu, Data, Decoded, Forward, Heading, Part, Triple, Written};
-use bits::Read;
+use apdu::{Apdu, Data, Forward, Heading, Triple};
+use fields::Refusal;
 use pdus::{PduType, Span};
 use std::io;
+use words::Unwritten;
 
 // The bytes of a request before its body, and the end of a slice that means all of it.
 const HEADER: usize = 65;
@@ -16,46 +17,34 @@ const ALL: usize = 18446744073709551615;
 
 // The number that n bits at a place say.
 fn number(s: &[u8], at: usize, n: usize) -> u64 {
-    let read = bits::read_bits(s, ALL, at, n);
-    let Read::Number(v, _) = read else {
-        return 0;
-    };
-    v
+    bits::read_bits(s, ALL, at, n).map_or(0, |(v, _)| v)
 }
 
 fn pdus(h: &[u8]) -> PduType {
-    if number(h, 8, 8) == 0 {
-        return PduType::AircraftPdus;
+    match number(h, 8, 8) {
+        0 => PduType::AircraftPdus,
+        _ => PduType::GroundPdus,
     }
-    PduType::GroundPdus
 }
 
 fn span(h: &[u8], at: usize) -> Span
     requires { at < 2 ^ 32 }
 {
-    let from = number(h, at, 64);
-    let count = number(h, at + 64, 64);
     Span {
-        at: from as usize,
-        count: count as usize,
+        at: number(h, at, 64) as usize,
+        count: number(h, at + 64, 64) as usize,
     }
 }
 
-fn part(given: u64, x: Span) -> Part {
-    if given == 0 {
-        return Part::Absent;
-    }
-    Part::Given(x)
+fn part(given: u64, x: Span) -> Option<Span> {
+    if given == 0 { None } else { Some(x) }
 }
 
 fn asked_data(h: &[u8]) -> Data {
-    let identifier = part(number(h, 24, 8), span(h, 104));
-    let message = part(number(h, 32, 8), span(h, 232));
-    let check = span(h, 360);
     Data {
-        identifier,
-        message,
-        check,
+        identifier: part(number(h, 24, 8), span(h, 104)),
+        message: part(number(h, 32, 8), span(h, 232)),
+        check: span(h, 360),
     }
 }
 
@@ -69,22 +58,18 @@ fn triple(first: u64, second: u64, third: u64) -> Triple {
 
 // A forward message: its numbers stand where the other parts' places and counts stand.
 fn asked_forward(h: &[u8]) -> Forward {
-    let date = triple(number(h, 104, 16), number(h, 120, 8), number(h, 128, 8));
-    let time = triple(number(h, 136, 8), number(h, 144, 8), number(h, 152, 8));
-    let characters = number(h, 160, 8);
-    let flight = number(h, 40, 64);
-    let address = number(h, 168, 64);
-    let direction = number(h, 360, 64);
-    let message = span(h, 232);
     let heading = Heading {
-        date,
-        time,
-        characters,
-        flight,
-        address,
-        direction,
+        date: triple(number(h, 104, 16), number(h, 120, 8), number(h, 128, 8)),
+        time: triple(number(h, 136, 8), number(h, 144, 8), number(h, 152, 8)),
+        characters: number(h, 160, 8),
+        flight: number(h, 40, 64),
+        address: number(h, 168, 64),
+        direction: number(h, 360, 64),
     };
-    Forward { heading, message }
+    Forward {
+        heading,
+        message: span(h, 232),
+    }
 }
 
 fn asked(h: &[u8]) -> Apdu {
@@ -102,116 +87,71 @@ fn asked(h: &[u8]) -> Apdu {
 }
 
 // What cannot be written is left out, as to a reader that is gone.
-fn say(rt: &impl Print, words: &[u8]) {
-    let _ = rt.write_all(words);
-}
-
-fn say_number(rt: &impl Print, n: u64) {
-    let _ = rt.print(n);
-}
-
-fn say_word(rt: &impl Print, n: u64) {
-    let _ = print!(rt; "{n:016x}");
-}
-
 fn show_span(rt: &impl Print, x: Span) {
-    say(rt, b" ");
-    say_number(rt, x.at as u64);
-    say(rt, b":");
-    say_number(rt, x.count as u64);
+    let _ = print!(rt; " {}:{}", x.at, x.count);
 }
 
-fn show_part(rt: &impl Print, p: Part) {
+fn show_part(rt: &impl Print, p: Option<Span>) {
     match p {
-        Part::Absent => {
-            say(rt, b" -");
+        None => {
+            let _ = print!(rt; " -");
         }
-        Part::Given(x) => {
-            show_span(rt, x);
-        }
+        Some(x) => show_span(rt, x),
     }
 }
 
 fn show_data(rt: &impl Print, d: Data) {
-    let identifier = d.identifier;
-    let message = d.message;
-    let check = d.check;
-    show_part(rt, identifier);
-    show_part(rt, message);
-    show_span(rt, check);
-    say(rt, b"\n");
-}
-
-fn show_number(rt: &impl Print, n: u64) {
-    say_number(rt, n);
-    say(rt, b"\n");
+    show_part(rt, d.identifier);
+    show_part(rt, d.message);
+    show_span(rt, d.check);
+    let _ = println!(rt; "");
 }
 
 fn show_triple(rt: &impl Print, t: Triple) {
-    say(rt, b" ");
-    say_number(rt, t.first);
-    say(rt, b" ");
-    say_number(rt, t.second);
-    say(rt, b" ");
-    say_number(rt, t.third);
+    let _ = print!(rt; " {} {} {}", t.first, t.second, t.third);
 }
 
 fn show_forward(rt: &impl Print, f: Forward) {
     let h = f.heading;
-    let date = h.date;
-    let time = h.time;
-    let message = f.message;
-    show_triple(rt, date);
-    show_triple(rt, time);
+    show_triple(rt, h.date);
+    show_triple(rt, h.time);
     show_triple(rt, triple(h.characters, h.flight, h.address));
-    say(rt, b" ");
-    say_number(rt, h.direction);
-    show_span(rt, message);
-    say(rt, b"\n");
+    let _ = print!(rt; " {}", h.direction);
+    show_span(rt, f.message);
+    let _ = println!(rt; "");
 }
 
 fn show(rt: &impl Print, a: Apdu) {
     match a {
         Apdu::AbortUser(r) => {
-            say(rt, b"abort-user ");
-            show_number(rt, r);
+            let _ = println!(rt; "abort-user {r}");
         }
         Apdu::AbortProvider(r) => {
-            say(rt, b"abort-provider ");
-            show_number(rt, r);
+            let _ = println!(rt; "abort-provider {r}");
         }
         Apdu::Start(m, d) => {
-            say(rt, b"start ");
-            say_number(rt, m);
+            let _ = print!(rt; "start {m}");
             show_data(rt, d);
         }
         Apdu::Send(d) => {
-            say(rt, b"send");
+            let _ = print!(rt; "send");
             show_data(rt, d);
         }
         Apdu::Forward(f) => {
-            say(rt, b"forward");
+            let _ = print!(rt; "forward");
             show_forward(rt, f);
         }
         Apdu::ForwardResponse(r) => {
-            say(rt, b"forward-response ");
-            show_number(rt, r);
+            let _ = println!(rt; "forward-response {r}");
         }
     }
 }
 
-fn show_answer(rt: &impl Print, r: Decoded) {
+fn show_answer(rt: &impl Print, r: Result<Apdu, Refusal>) {
     match r {
-        Decoded::Is(a) => {
-            show(rt, a);
-        }
-        Decoded::Refused(e) => {
-            say(rt, b"refused ");
-            let fault = e.fault;
-            let at = e.at;
-            say_number(rt, fields::number(fault));
-            say(rt, b" at ");
-            show_number(rt, at as u64);
+        Ok(a) => show(rt, a),
+        Err(e) => {
+            let _ = println!(rt; "refused {} at {}", fields::number(e.fault), e.at);
         }
     }
 }
@@ -220,46 +160,28 @@ fn show_answer(rt: &impl Print, r: Decoded) {
 fn show_bytes(rt: &impl Print, s: &[u8], words: usize)
     requires { words ≤ 512 }
 {
-    let mut i: usize = 0;
-    while i < words {
-        say_word(rt, number(s, 64 * i, 64));
-        i += 1;
+    for i in 0..words {
+        let _ = print!(rt; "{:016x}", number(s, 64 * i, 64));
     }
-    say(rt, b"\n");
+    let _ = println!(rt; "");
 }
 
-fn show_written(rt: &impl Print, w: Written, s: &[u8], words: usize)
+fn show_written(rt: &impl Print, w: Result<usize, Unwritten>, s: &[u8], words: usize)
     requires { words ≤ 512 }
 {
-    match w {
-        Written::Bits(n) => {
-            say(rt, b"bits ");
-            say_number(rt, n as u64);
-        }
-        Written::Room => {
-            say(rt, b"room");
-        }
-        Written::Shape => {
-            say(rt, b"shape");
-        }
-    }
-    say(rt, b" ");
+    let _ = match w {
+        Ok(n) => print!(rt; "bits {n} "),
+        Err(Unwritten::Room) => print!(rt; "room "),
+        Err(Unwritten::Shape) => print!(rt; "shape "),
+    };
     show_bytes(rt, s, words);
-}
-
-fn fill(out: &mut [u8]) {
-    let mut i: usize = 0;
-    while i < out.len() {
-        out[i] = 165;
-        i += 1;
-    }
 }
 
 // What is written to a buffer of so many times eight bytes, each of them A5 before.
 fn write(rt: &impl Print, h: &[u8], body: &[u8], out: &mut [u8], words: usize, whole: bool)
     requires { words ≤ 512 }
 {
-    fill(out);
+    out.fill(165);
     if whole {
         let w = apdu::put_apdu(out, pdus(h), asked(h), body, body, body);
         show_written(rt, w, out, words);
@@ -276,44 +198,22 @@ fn answer(rt: &impl Print, h: &[u8], body: &[u8], out: &mut [u8]) {
         return;
     }
     let words = number(h, 488, 16) as usize;
-    if 512 < words {
-        say(rt, b"bad\n");
+    if 512 < words || out.len() < 8 * words {
+        let _ = println!(rt; "bad");
         return;
     }
-    let n = 8 * words;
-    if out.len() < n {
-        say(rt, b"bad\n");
-        return;
-    }
-    write(rt, h, body, &mut out[..n], words, op == 1);
+    write(rt, h, body, &mut out[..8 * words], words, op == 1);
 }
 
 fn answers(rt: &impl Print, s: &[u8], out: &mut [u8]) {
-    let mut at: usize = 0;
-    let mut turns = s.len();
-    while 0 < turns {
-        if s.len() - at < HEADER {
+    let mut rest = s;
+    while let Some((h, behind)) = rest.split_at_checked(HEADER) {
+        let Some((body, next)) = behind.split_at_checked(number(h, 504, 16) as usize) else {
             break;
-        }
-        let h = &s[at..];
-        let len = number(h, 504, 16) as usize;
-        let from = at + HEADER;
-        if s.len() - from < len {
-            break;
-        }
-        let next = from + len;
-        answer(rt, h, &s[from..next], out);
-        at = next;
-        turns -= 1;
+        };
+        answer(rt, h, body, out);
+        rest = next;
     }
-}
-
-fn large_buffer() -> [u8; 65536] {
-    [0u8; 65536]
-}
-
-fn out_buffer() -> [u8; 4096] {
-    [0u8; 4096]
 }
 
 // Reads until the buffer is full, the input ends or a read fails, and answers how many bytes it put at the buffer's start.
@@ -334,8 +234,8 @@ fn read_full(input: &mut impl io::Read, buf: &mut [u8]) -> usize
 }
 
 fn main(rt: HostRuntime) {
-    let mut buf = large_buffer();
-    let mut out = out_buffer();
+    let mut buf = [0u8; 65536];
+    let mut out = [0u8; 4096];
     let n = read_full(&mut rt.stdin(), &mut buf);
     answers(&rt, &buf[..n], &mut out);
 }

@@ -1,29 +1,25 @@
 -- What the measured calls answer: one number, and the bytes.
-use Rattle.std.specs.Prelude.{ℕ, List}
+use Rattle.std.specs.Prelude.{ℕ, List, None, Option, Some}
 use Rattle.bits.specs.Bits.{bits_to}
 use Rattle.bits.specs.Read.{read_bits}
 use Rattle.bits.specs.Put.{Left, copy_run}
-use Rattle.bits.specs.declared.Read.{Read}
-use Rattle.bits.specs.declared.Read.TheVariants.{Number, Short}
-use Rattle.bits.specs.declared.Put.{Put}
-use Rattle.bits.specs.declared.Put.TheVariants.{Next, Full}
 
 -- The greatest number of 64 bits: the end that leaves out no bit of the lent bytes, and the answer of a refused call.
 abbrev pub greatest : ℕ
 greatest = 18446744073709551615
 
 -- the number that was read, or the greatest
-abbrev pub number_in : Read → ℕ
-number_in (Number v next) = v
-number_in Short = greatest
+abbrev pub number_in : Option (ℕ × ℕ) → ℕ
+number_in (Some (v, next)) = v
+number_in None = greatest
 
 unfoldable pub bench_read : List ℕ → ℕ → ℕ → ℕ
 bench_read s at n = number_in (read_bits (bits_to s greatest) at n)
 
 -- the place after what was written, or the greatest
-abbrev pub place_in : Put → ℕ
-place_in (Next next) = next
-place_in Full = greatest
+abbrev pub place_in : Option ℕ → ℕ
+place_in (Some next) = next
+place_in None = greatest
 
 -- what a copy leaves: its number and the bytes
 pub record Copied : Type 0 where

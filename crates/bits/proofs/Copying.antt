@@ -1,23 +1,23 @@
 -- Laws of a run of bits that is copied: a copy reads at the new place as it read at the old one.
 -- Assumes nothing.
-use mathlib.Core.Path.{◌≡◌, refl, ap, sym, ◌∙◌}
-use mathlib.Core.Bool.{Bool, true, false}
-use mathlib.Core.List.{List, [], ◌∷◌, ◌++◌, append_assoc, append-nil}
-use Prim.Native.Nat.{ℕ, zero, suc, ◌+◌, ◌-◌, ◌*◌, ◌/◌, ◌%◌, ◌^◌, ◌≤◌, ◌<◌}
+use mathlib.Core.Path.{◌≡◌, ap, sym, ◌∙◌}
+use mathlib.Core.Bool.{false}
+use mathlib.Core.List.{List, ◌∷◌, ◌++◌, append_assoc, append-nil}
+use Prim.Native.Nat.{ℕ, suc, ◌+◌, ◌-◌, ◌*◌, ◌/◌, ◌%◌, ◌^◌, ◌≤◌, ◌<◌}
 use native.Mathlib.Omega.{arith}
 use native.Mathlib.Decide.{dec_lt}
 use native.Mathlib.Nat.{mod-eq_of_lt, zero-add}
 use native.Mathlib.Numerals.{add-one}
 use lib.Dec.{leb}
-use lib.ListN.{length, get_or, take, drop, set, length-drop}
+use lib.ListN.{length, get_or, drop, set, length-drop}
 use lib.Seq.{sets, sets-eq, drop-length, drop-drop, drop-cons, take-append-le, drop-append-le}
 use Rattle.bits.specs.Bits.{bits_n, bits_of, num_of, bits_to, run}
 use Rattle.bits.specs.Put.{put_bits, left, copy_run, put_run, put_if}
-use Rattle.bits.specs.declared.Put.TheVariants.{Next, Full}
 use Rattle.bits.proofs.Numbers.{bits_n_split, bits_n_high, bits_n_part, bits_n_mod, length_bits_n, num_bits_n}
 use Rattle.bits.proofs.Bytes.{bits_cons, bytes_drop, run_zero, run_add, run_bits, bits_run, length_run}
 use Rattle.bits.proofs.Inside.{Within}
 use Rattle.bits.proofs.Putting.{put_nil, put_append, number_in_byte, read_back}
+use Rattle.std.specs.Prelude.{None, Some}
 
 -- ---- runs in a row
 
@@ -150,15 +150,15 @@ byte_start d s base at m =
 -- ---- the answers of the copier, as the code has them
 
 pub is_copied : (d z s : List ℕ) (e to f at n : ℕ) → Within s f at n → Within d e to n → z ≡ put_bits d to (run s at n)
-    → left (Next (to + n)) z ≡ copy_run d e to s f at n
+    → left (Some (to + n)) z ≡ copy_run d e to s f at n
 unfolding copy_run put_if put_run
 is_copied d z s e to f at n ws wd h = rw (ws.test, length_run s at n ws.bytes, wd.test, h)
 
 pub no_room : (d s : List ℕ) (e to f at n : ℕ) → Within s f at n → leb (to + n) (length (bits_to d e)) ≡ false
-    → left Full d ≡ copy_run d e to s f at n
+    → left None d ≡ copy_run d e to s f at n
 unfolding copy_run put_if put_run
 no_room d s e to f at n ws wd = rw (ws.test, length_run s at n ws.bytes, wd)
 
-pub not_there : (d s : List ℕ) (e to f at n : ℕ) → leb (at + n) (length (bits_to s f)) ≡ false → left Full d ≡ copy_run d e to s f at n
+pub not_there : (d s : List ℕ) (e to f at n : ℕ) → leb (at + n) (length (bits_to s f)) ≡ false → left None d ≡ copy_run d e to s f at n
 unfolding copy_run put_if
 not_there d s e to f at n h = rw h

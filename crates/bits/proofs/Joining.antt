@@ -1,24 +1,24 @@
 -- Laws of a number and a run of bits behind it, and of the padding.
 -- Assumes nothing.
-use mathlib.Core.Path.{◌≡◌, refl, ap, sym, ◌∙◌}
+use mathlib.Core.Path.{◌≡◌, ap, sym, ◌∙◌}
 use mathlib.Core.Bool.{Bool, true, false, ◌&&◌}
 use mathlib.Core.List.{List, ◌++◌, append_assoc}
-use Prim.Native.Nat.{ℕ, ◌+◌, ◌-◌, ◌*◌, ◌/◌, ◌%◌, ◌^◌, ◌≤◌, ◌<◌, min}
+use Prim.Native.Nat.{ℕ, ◌+◌, ◌-◌, ◌*◌, ◌/◌, ◌^◌, ◌≤◌, ◌<◌}
 use native.Mathlib.Omega.{arith}
 use native.Mathlib.Nat.{mul-add-div_right, div-eq_of_lt}
 use borrow.Author.Tests.{le-leb, lt-leb}
 use lib.Dec.{leb, ltb}
 use lib.ListN.{length, length-append}
 use lib.Pow.{pow_pos}
-use Rattle.words.proofs.Laws.{both_left, both_right}
+use Rattle.words.proofs.Laws.{both_right}
 use Rattle.bits.specs.Bits.{bits_n, num_of, bits_to, run}
 use Rattle.bits.specs.Put.{left, put_bits, put_run, put_if, put_led}
-use Rattle.bits.specs.declared.Put.TheVariants.{Next, Full}
 use Rattle.bits.proofs.Numbers.{bits_n_split, bits_n_high, length_bits_n}
 use Rattle.bits.proofs.Bytes.{run_add, run_bits, length_run}
 use Rattle.bits.proofs.Inside.{Within}
 use Rattle.bits.proofs.Putting.{put_append}
 use Rattle.bits.proofs.EightBytes.{run_lt}
+use Rattle.std.specs.Prelude.{None, Some}
 
 -- ---- two numbers side by side are one
 
@@ -50,42 +50,39 @@ with_rest d x z s at n v from k count full h g p q =
 
 -- ---- the answers, as the code has them
 
-pub no_room_before : (len e at n count : ℕ) → e < n + count → false ≡ leb (at + (n + count)) (min e (8 * len))
-no_room_before len e at n count h = sym (lt-leb (at + (n + count)) (min e (8 * len)) (omega arith))
-
 module _ (d s : List ℕ) (e at n v f from count : ℕ) where
   long : Within s f from count → length (bits_n n v ++ run s from count) ≡ n + count
   long w = length-append (bits_n n v) (run s from count) ∙ rw (length_bits_n n v, length_run s from count w.bytes)
 
   pub is_led : (z : List ℕ) (t : Bool) → n ≤ 56 → t ≡ (leb n 64 && ltb v (2 ^ n)) → t ≡ true → Within s f from count
       → Within d e at (n + count) → z ≡ put_bits d at (bits_n n v ++ run s from count)
-      → left (Next (at + (n + count))) z ≡ put_led d e at n v s f from count
+      → left (Some (at + (n + count))) z ≡ put_led d e at n v s f from count
   unfolding put_led put_if put_run
   is_led z t h p q ws wd g =
       let b : ltb v (2 ^ n) ≡ true = both_right (leb n 64) (ltb v (2 ^ n)) (sym p ∙ q) in
       rw (le-leb n 56 h, b, ws.test, long ws, wd.test, g)
 
   pub led_full : (t : Bool) → n ≤ 56 → t ≡ (leb n 64 && ltb v (2 ^ n)) → t ≡ true → Within s f from count
-      → leb (at + (n + count)) (length (bits_to d e)) ≡ false → left Full d ≡ put_led d e at n v s f from count
+      → leb (at + (n + count)) (length (bits_to d e)) ≡ false → left None d ≡ put_led d e at n v s f from count
   unfolding put_led put_if put_run
   led_full t h p q ws g =
       let b : ltb v (2 ^ n) ≡ true = both_right (leb n 64) (ltb v (2 ^ n)) (sym p ∙ q) in
       rw (le-leb n 56 h, b, ws.test, long ws, g)
 
   pub led_lost : (t : Bool) → n ≤ 56 → t ≡ (leb n 64 && ltb v (2 ^ n)) → t ≡ true
-      → leb (from + count) (length (bits_to s f)) ≡ false → left Full d ≡ put_led d e at n v s f from count
+      → leb (from + count) (length (bits_to s f)) ≡ false → left None d ≡ put_led d e at n v s f from count
   unfolding put_led put_if
   led_lost t h p q g =
       let b : ltb v (2 ^ n) ≡ true = both_right (leb n 64) (ltb v (2 ^ n)) (sym p ∙ q) in
       rw (le-leb n 56 h, b, g)
 
-  pub led_odd : (t : Bool) → n ≤ 56 → t ≡ (leb n 64 && ltb v (2 ^ n)) → t ≡ false → left Full d ≡ put_led d e at n v s f from count
+  pub led_odd : (t : Bool) → n ≤ 56 → t ≡ (leb n 64 && ltb v (2 ^ n)) → t ≡ false → left None d ≡ put_led d e at n v s f from count
   unfolding put_led put_if
   led_odd t h p q =
       let a : leb n 64 ≡ true = le-leb n 64 (omega arith) in
       let b : ltb v (2 ^ n) ≡ false = (rw a at (sym p)) ∙ q in
       rw (le-leb n 56 h, b)
 
-  pub led_wide : 56 < n → left Full d ≡ put_led d e at n v s f from count
+  pub led_wide : 56 < n → left None d ≡ put_led d e at n v s f from count
   unfolding put_led put_if
   led_wide h = rw (lt-leb n 56 h)

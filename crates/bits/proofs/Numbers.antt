@@ -4,9 +4,9 @@ use mathlib.Core.Path.{◌≡◌, refl, ap, sym, ◌∙◌}
 use mathlib.Core.List.{List, [], ◌∷◌, ◌++◌}
 use Prim.Native.Nat.{ℕ, zero, suc, ◌+◌, ◌-◌, ◌*◌, ◌/◌, ◌%◌, ◌^◌, ◌≤◌, ◌<◌}
 use native.Mathlib.Omega.{arith}
-use native.Mathlib.Nat.{pow-suc, add-mul, mul_assoc, mul_comm, zero-add, suc-add, add_comm, add_assoc, sub-zero, mul-add-div_right, mod-lt}
-use lib.ListN.{length, get_or, take, drop, length-append}
-use lib.Seq.{take_at, drop_at}
+use native.Mathlib.Nat.{pow-suc, add-mul, mul_assoc, mul_comm, zero-add, suc-add, add_comm, add_assoc, sub-zero, mul-add-div_right}
+use lib.ListN.{length, get_or, take, drop}
+use lib.Seq.{take_at}
 use lib.Pow.{pow_pos, mod-pow-add, high, shr-shr}
 use lib.Arith.{digits_lt}
 use Rattle.bits.specs.Bits.{bits_n, acc_of, num_of}

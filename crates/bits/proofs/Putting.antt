@@ -7,18 +7,17 @@ use Prim.Native.Nat.{ℕ, zero, suc, ◌+◌, ◌-◌, ◌*◌, ◌/◌, ◌%◌
 use native.Mathlib.Omega.{arith}
 use native.Mathlib.Decide.{dec_lt}
 use native.Mathlib.Nat.{mod-eq_of_lt, zero-add, add-zero, suc-add, add-mul, mul_assoc, div-lt_iff_lt-mul}
-use borrow.Author.Tests.{le-leb, lt-leb, leb-true, le-ltb, lt-ltb, ltb-true}
+use borrow.Author.Tests.{le-leb, leb-true, lt-ltb}
 use lib.Dec.{leb, ltb}
-use lib.ListN.{length, get_or, set, take, drop, length-append, length-drop, length-set}
+use lib.ListN.{length, get_or, set, take, drop, length-append, length-set}
 use lib.Seq.{set-append_left, take-set-le, drop-set-lt, drop_at, take_at, length-take-le, sets, sets-eq, length-sets, take-add}
 use lib.Pow.{pow-add, pow_pos}
-use Rattle.bits.specs.Bits.{bits_n, bits_of, acc_of, num_of, bits_to, run}
+use Rattle.bits.specs.Bits.{bits_n, bits_of, num_of, bits_to, run}
 use Rattle.bits.specs.Put.{with_bit, set_bit, put_bits, Left, left, put_run, put_if, put_number}
-use Rattle.bits.specs.declared.Put.{Put}
-use Rattle.bits.specs.declared.Put.TheVariants.{Next, Full}
 use Rattle.bits.proofs.Numbers.{Bits, bits_n_suc, bits_n_zero, num_append, num_lt, num_bits_n, bits_n_num, length_bits_n, bits_bits_n, bits_n_split, bits_n_take, bits_n_drop, bits_n_mod}
 use Rattle.bits.proofs.Bytes.{bits_cons, length_bits_is, length_to, run_to, Holds, Bytes, bytes_bits, take_drop}
 use Rattle.bits.proofs.Inside.{Within}
+use Rattle.std.specs.Prelude.{None, Option, Some}
 
 -- ---- the clauses of the definitions, as equations
 
@@ -265,11 +264,11 @@ turn d d' z at n i k v w part x pos hk g h q p u e inv =
 -- ---- the answers of the writers
 
 pub put_fits : (s : List ℕ) (e at : ℕ) (bs : List ℕ) → at + length bs ≤ length (bits_to s e)
-    → put_run s e at bs ≡ left (Next (at + length bs)) (put_bits s at bs)
+    → put_run s e at bs ≡ left (Some (at + length bs)) (put_bits s at bs)
 unfolding put_run
 put_fits s e at bs h = rw (le-leb (at + length bs) (length (bits_to s e)) h)
 
-pub put_full : (s : List ℕ) (e at : ℕ) (bs : List ℕ) → leb (at + length bs) (length (bits_to s e)) ≡ false → put_run s e at bs ≡ left Full s
+pub put_full : (s : List ℕ) (e at : ℕ) (bs : List ℕ) → leb (at + length bs) (length (bits_to s e)) ≡ false → put_run s e at bs ≡ left None s
 unfolding put_run
 put_full s e at bs h = rw h
 
@@ -279,37 +278,33 @@ pub record PutIs (s : List ℕ) (e at : ℕ) (bs : List ℕ) (next : ℕ) (z : L
   pub within : at + length bs ≤ length (bits_to s e)
   pub bytes : z ≡ put_bits s at bs
 
-pub put_is : (s : List ℕ) (e at : ℕ) (bs : List ℕ) (next : ℕ) (z : List ℕ) → put_run s e at bs ≡ left (Next next) z → PutIs s e at bs next z
+pub put_is : (s : List ℕ) (e at : ℕ) (bs : List ℕ) (next : ℕ) (z : List ℕ) → put_run s e at bs ≡ left (Some next) z → PutIs s e at bs next z
 unfolding put_run
 put_is s e at bs next z h = go (leb (at + length bs) (length (bits_to s e))) refl h
   where
     go : (t : Bool) → leb (at + length bs) (length (bits_to s e)) ≡ t
-        → cond t (left (Next (at + length bs)) (put_bits s at bs)) (left Full s) ≡ left (Next next) z
+        → cond t (left (Some (at + length bs)) (put_bits s at bs)) (left None s) ≡ left (Some next) z
         → PutIs s e at bs next z
     go true p q =
-        let a : Next (at + length bs) ≡ Next next = ap (λ (l : Left). l.answer) q in
+        let a : Some (at + length bs) ≡ Some next = ap (λ (l : Left). l.answer) q in
         record { place = cc; within = leb-true _ _ p; bytes = sym (ap (λ (l : Left). l.bytes) q) }
     go false p q =
-        let a : Full ≡ Next next = ap (λ (l : Left). l.answer) q in
+        let a : None ≡ Some next = ap (λ (l : Left). l.answer) q in
         let x : ◌≡◌ {A = ℕ} 0 1 = cc in
         absurd (omega arith)
 
 -- a number, as the code has it
 pub is_put : (s z : List ℕ) (e at n v : ℕ) (t : Bool) → t ≡ (leb n 64 && ltb v (2 ^ n)) → t ≡ true → Within s e at n
-    → z ≡ put_bits s at (bits_n n v) → left (Next (at + n)) z ≡ put_number s e at n v
+    → z ≡ put_bits s at (bits_n n v) → left (Some (at + n)) z ≡ put_number s e at n v
 unfolding put_number put_if put_run
 is_put s z e at n v t p q w f = rw (← p, q, length_bits_n n v, w.test, f)
 
--- any width holds zero
-pub zero_held : (n : ℕ) → n ≤ 64 → true ≡ (leb n 64 && ltb 0 (2 ^ n))
-zero_held n h = rw (le-leb n 64 h, lt-ltb 0 (2 ^ n) (pow_pos n))
-
 pub is_full : (s : List ℕ) (e at n v : ℕ) (t : Bool) → t ≡ (leb n 64 && ltb v (2 ^ n)) → t ≡ true
-    → leb (at + n) (length (bits_to s e)) ≡ false → left Full s ≡ put_number s e at n v
+    → leb (at + n) (length (bits_to s e)) ≡ false → left None s ≡ put_number s e at n v
 unfolding put_number put_if put_run
 is_full s e at n v t p q w = rw (← p, q, length_bits_n n v, w)
 
-pub is_too_wide : (s : List ℕ) (e at n v : ℕ) (t : Bool) → t ≡ (leb n 64 && ltb v (2 ^ n)) → t ≡ false → left Full s ≡ put_number s e at n v
+pub is_too_wide : (s : List ℕ) (e at n v : ℕ) (t : Bool) → t ≡ (leb n 64 && ltb v (2 ^ n)) → t ≡ false → left None s ≡ put_number s e at n v
 unfolding put_number put_if
 is_too_wide s e at n v t p q = rw (← p, q)
 
@@ -323,16 +318,16 @@ pub put_if_yes : (ok : Bool) (s : List ℕ) (e at : ℕ) (bs : List ℕ) → ok 
 unfolding put_if
 put_if_yes ok s e at bs h = rw h
 
-pub put_if_no : (ok : Bool) (s : List ℕ) (e at : ℕ) (bs : List ℕ) → ok ≡ false → put_if ok s e at bs ≡ left Full s
+pub put_if_no : (ok : Bool) (s : List ℕ) (e at : ℕ) (bs : List ℕ) → ok ≡ false → put_if ok s e at bs ≡ left None s
 unfolding put_if
 put_if_no ok s e at bs h = rw h
 
 -- where both runs fit, the second after the first is the two joined
-pub put_then : (s z : List ℕ) (e at : ℕ) (xs ys : List ℕ) (r : Put) → at + length (xs ++ ys) ≤ length (bits_to s e)
+pub put_then : (s z : List ℕ) (e at : ℕ) (xs ys : List ℕ) (r : Option ℕ) → at + length (xs ++ ys) ≤ length (bits_to s e)
     → left r z ≡ put_run s e at xs → put_run z e (at + length xs) ys ≡ put_run s e at (xs ++ ys)
 put_then s z e at xs ys r h p =
     let n : length (xs ++ ys) ≡ length xs + length ys = length-append xs ys in
-    let f : left r z ≡ left (Next (at + length xs)) (put_bits s at xs) = p ∙ put_fits s e at xs (omega arith) in
+    let f : left r z ≡ left (Some (at + length xs)) (put_bits s at xs) = p ∙ put_fits s e at xs (omega arith) in
     let b : z ≡ put_bits s at xs = ap (λ (l : Left). l.bytes) f in
     let k : length (bits_to z e) ≡ length (bits_to s e) = rw (b, length_to, length_to, length_put) in
     let q : at + length xs + length ys ≡ at + length (xs ++ ys) = omega arith in

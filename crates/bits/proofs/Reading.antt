@@ -11,12 +11,13 @@ use lib.Dec.{leb}
 use lib.ListN.{length, get_or, take, drop}
 use lib.Pow.{pow-add, pow_mono, pow_pos, shl_exact}
 use lib.Arith.{digits_lt}
+use Rattle.words.proofs.Laws.{some_place, some_value}
 use Rattle.bits.specs.Bits.{bits_n, num_of, bits_to, run}
 use Rattle.bits.specs.Read.{read_bits}
-use Rattle.bits.specs.declared.Read.TheVariants.{Number, Short}
 use Rattle.bits.proofs.Numbers.{Bits, length_bits_n, num_append, num_bits_n, bits_n_part}
 use Rattle.bits.proofs.Bytes.{Holds, length_run, run_add, run_in_byte, run_to, part_lt, part_bits}
 use Rattle.bits.proofs.Inside.{Within}
+use Rattle.std.specs.Prelude.{None, Option, Some}
 
 -- ---- a turn of the loop
 
@@ -63,16 +64,16 @@ turn_fits v w z i k h p g l =
 
 -- ---- the answers, as the code has them
 
-pub is_wide : (l : List ℕ) (at n : ℕ) → 64 < n → Short ≡ read_bits l at n
+pub is_wide : (l : List ℕ) (at n : ℕ) → 64 < n → None ≡ read_bits l at n
 unfolding read_bits
 is_wide l at n h = rw (lt-leb n 64 h)
 
-pub is_short : (l : List ℕ) (at n : ℕ) → n ≤ 64 → leb (at + n) (length l) ≡ false → Short ≡ read_bits l at n
+pub is_short : (l : List ℕ) (at n : ℕ) → n ≤ 64 → leb (at + n) (length l) ≡ false → None ≡ read_bits l at n
 unfolding read_bits
 is_short l at n h e = rw (le-leb n 64 h, e)
 
 pub is_number : (s : List ℕ) (e at n v : ℕ) → n ≤ 64 → Within s e at n → v ≡ num_of (run s at n)
-    → Number v (at + n) ≡ read_bits (bits_to s e) at n
+    → Some (v, at + n) ≡ read_bits (bits_to s e) at n
 unfolding read_bits
 is_number s e at n v h w p = rw (le-leb n 64 h, w.test, run_to s e at n w.end, p)
 
@@ -84,30 +85,30 @@ pub record NumberIs (l : List ℕ) (at n v next : ℕ) : Type 0 where
   pub within : at + n ≤ length l
   pub value : v ≡ num_of (take n (drop at l))
 
-pub number_is : (l : List ℕ) (at n v next : ℕ) → read_bits l at n ≡ Number v next → NumberIs l at n v next
+pub number_is : (l : List ℕ) (at n v next : ℕ) → read_bits l at n ≡ Some (v, next) → NumberIs l at n v next
 unfolding read_bits
 number_is l at n v next e = go (leb n 64) refl (leb (at + n) (length l)) refl e
   where
     go : (a : Bool) → leb n 64 ≡ a → (b : Bool) → leb (at + n) (length l) ≡ b
-        → cond (a && b) (Number (num_of (take n (drop at l))) (at + n)) Short ≡ Number v next → NumberIs l at n v next
-    go true p true q e = record { width = leb-true _ _ p; place = cc; within = leb-true _ _ q; value = cc }
+        → cond {A = Option (ℕ × ℕ)} (a && b) (Some (num_of (take n (drop at l)), at + n)) None ≡ Some (v, next) → NumberIs l at n v next
+    go true p true q e = record { width = leb-true _ _ p; place = sym (some_place e); within = leb-true _ _ q; value = sym (some_value e) }
     go true p false q e = let z : ◌≡◌ {A = ℕ} 0 1 = cc in absurd (omega arith)
     go false p b q e = let z : ◌≡◌ {A = ℕ} 0 1 = cc in absurd (omega arith)
 
-pub number_lt : (l : List ℕ) (at n v next : ℕ) → Bits l → read_bits l at n ≡ Number v next → v < 2 ^ n
+pub number_lt : (l : List ℕ) (at n v next : ℕ) → Bits l → read_bits l at n ≡ Some (v, next) → v < 2 ^ n
 number_lt l at n v next b e =
     let i = number_is l at n v next e in
     rw i.value (part_lt l at n b i.within)
 
 -- a number that was read stands there
-pub number_stands : (l : List ℕ) (at n v next : ℕ) → Bits l → read_bits l at n ≡ Number v next → Holds l at (bits_n n v)
+pub number_stands : (l : List ℕ) (at n v next : ℕ) → Bits l → read_bits l at n ≡ Some (v, next) → Holds l at (bits_n n v)
 number_stands l at n v next b e =
     let i = number_is l at n v next e in
     rw length_bits_n (part_bits l at n b i.within ∙ ap (bits_n n) (sym i.value))
 
 -- a number that stands there is read
 pub number_read : (l : List ℕ) (at n v : ℕ) → n ≤ 64 → v < 2 ^ n → at + n ≤ length l → Holds l at (bits_n n v)
-    → read_bits l at n ≡ Number v (at + n)
+    → read_bits l at n ≡ Some (v, at + n)
 unfolding read_bits
 number_read l at n v w f h k =
     let g : take n (drop at l) ≡ bits_n n v = rw (length_bits_n n v) at k in

@@ -1,6 +1,6 @@
 -- The bits of bytes, the number that bits say, and the bits of a number at a width.
 -- A bit is 0 or 1. The first bit of a byte is its most significant one (X.691: leading bit first).
-use Rattle.std.specs.Prelude.{ℕ, zero, suc, ◌+◌, ◌*◌, ◌/◌, ◌%◌, ◌^◌, List, [], ◌∷◌, ◌++◌, take, drop}
+use Rattle.std.specs.Prelude.{ℕ, zero, suc, ◌+◌, ◌*◌, ◌/◌, ◌%◌, ◌^◌, ◌<◌, ◌≤◌, List, [], ◌∷◌, ◌++◌, take, drop, length}
 
 -- the n low bits of a number, the most significant first
 unfoldable pub bits_n : ℕ → ℕ → List ℕ
@@ -33,3 +33,7 @@ run s at n = take n (drop at (bits_of s))
 unfoldable pub bytes_of : ℕ → List ℕ → List ℕ
 bytes_of zero l = []
 bytes_of (suc n) l = num_of (take 8 l) ∷ bytes_of n (drop 8 l)
+
+-- n bits at a place lie within bytes, and no place among them wraps
+abbrev pub Lies : List ℕ → ℕ → ℕ → Type 0
+Lies s at n = (at + n ≤ 8 * length s) × (at + n < 2 ^ 64)

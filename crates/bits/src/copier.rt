@@ -1,10 +1,8 @@
 // A run of bits copied from a place of one slice straight to a place of another, by eight bytes, bytes and shifts.
 ghost use Rattle.std.specs.Prelude.{◌≡◌, ◌+◌, ◌-◌, ◌*◌, ◌/◌, ◌%◌, ◌^◌, ◌<◌, ◌≤◌, length};
-ghost use Rattle.bits.specs.Bits.{run};
+ghost use Rattle.bits.specs.Bits.{Lies, run};
 ghost use Rattle.bits.specs.Put.{put_bits, copy_run, left};
 
-use crate::Put;
-use crate::common::{least, wide};
 use crate::eight_bytes::{eight_of_nine, put_eight};
 use crate::extent::within;
 use crate::reader::number_at;
@@ -26,12 +24,8 @@ fn copy_bytes(dst: &mut [u8], base: usize, src: &[u8], at: usize, m: usize)
 {
     let q = at / 8;
     let r = at % 8;
-    let mut i: usize = 0;
-    while i < m {
-        let a = wide(src[q + i]);
-        let b = wide(src[q + i + 1]);
-        dst[base + i] = eight(a, b, r);
-        i += 1;
+    for i in 0..m {
+        dst[base + i] = eight(src[q + i] as u64, src[q + i + 1] as u64, r);
     }
 }
 
@@ -42,11 +36,9 @@ fn copy_eights(dst: &mut [u8], base: usize, src: &[u8], at: usize, m: usize)
 {
     let q = at / 8;
     let r = at % 8;
-    let mut i: usize = 0;
-    while i < m {
+    for i in 0..m {
         let x = eight_of_nine(src, q + 8 * i, r);
         put_eight(dst, base + 8 * i, x);
-        i += 1;
     }
 }
 
@@ -62,7 +54,7 @@ fn copy_whole(dst: &mut [u8], base: usize, src: &[u8], at: usize, m: usize)
 
 // At most 64 bits, as one number.
 fn copy_few(dst: &mut [u8], to: usize, src: &[u8], at: usize, n: usize)
-    requires { (to + n ≤ 8 * length dst.old) × (to + n < 2 ^ 64) × (at + n ≤ 8 * length src.now) × (at + n < 2 ^ 64) × (n ≤ 64) }
+    requires { Lies dst.old to n × Lies src.now at n × (n ≤ 64) }
     ensures { dst.new ≡ put_bits dst.old to (run src.now at n) }
 {
     if n != 0 {
@@ -75,19 +67,15 @@ fn copy_few(dst: &mut [u8], to: usize, src: &[u8], at: usize, n: usize)
 fn whole(len: usize, at: usize, n: usize) -> usize
     ensures { (8 * result ≤ n) × (result ≤ len - (at / 8 + 1)) × (at + n ≤ 8 * len → n ≤ 8 * result + 15) }
 {
-    let q = at / 8;
-    if len <= q {
-        return 0;
-    }
-    least(n / 8, len - q - 1)
+    (n / 8).min(len.saturating_sub(at / 8 + 1))
 }
 
 // The bits up to the destination's next byte, whole bytes, and the bits that are left.
 fn copy_straight(dst: &mut [u8], to: usize, src: &[u8], at: usize, n: usize)
-    requires { (to + n ≤ 8 * length dst.old) × (to + n < 2 ^ 64) × (at + n ≤ 8 * length src.now) × (at + n < 2 ^ 64) }
+    requires { Lies dst.old to n × Lies src.now at n }
     ensures { dst.new ≡ put_bits dst.old to (run src.now at n) }
 {
-    let h = least(n, (8 - to % 8) % 8);
+    let h = n.min((8 - to % 8) % 8);
     copy_few(dst, to, src, at, h);
     let m = whole(src.len(), at + h, n - h);
     copy_whole(dst, (to + h) / 8, src, at + h, m);
@@ -96,7 +84,7 @@ fn copy_straight(dst: &mut [u8], to: usize, src: &[u8], at: usize, n: usize)
 
 // At most 112 bits, as two numbers, of which each lies within eight bytes wherever it stands.
 fn copy_two(dst: &mut [u8], to: usize, src: &[u8], at: usize, n: usize)
-    requires { (to + n ≤ 8 * length dst.old) × (to + n < 2 ^ 64) × (at + n ≤ 8 * length src.now) × (at + n < 2 ^ 64) × (56 ≤ n) × (n ≤ 112) }
+    requires { Lies dst.old to n × Lies src.now at n × (56 ≤ n) × (n ≤ 112) }
     ensures { dst.new ≡ put_bits dst.old to (run src.now at n) }
 {
     copy_few(dst, to, src, at, 56);
@@ -105,7 +93,7 @@ fn copy_two(dst: &mut [u8], to: usize, src: &[u8], at: usize, n: usize)
 
 // A run that is longer than 56 bits.
 fn copy_longer(dst: &mut [u8], to: usize, src: &[u8], at: usize, n: usize)
-    requires { (to + n ≤ 8 * length dst.old) × (to + n < 2 ^ 64) × (at + n ≤ 8 * length src.now) × (at + n < 2 ^ 64) × (56 ≤ n) }
+    requires { Lies dst.old to n × Lies src.now at n × (56 ≤ n) }
     ensures { dst.new ≡ put_bits dst.old to (run src.now at n) }
 {
     if n <= 112 {
@@ -117,7 +105,7 @@ fn copy_longer(dst: &mut [u8], to: usize, src: &[u8], at: usize, n: usize)
 
 // A run that a number or two hold goes as those: most fields of a message are that short.
 pub(crate) fn copy_run(dst: &mut [u8], to: usize, src: &[u8], at: usize, n: usize)
-    requires { (to + n ≤ 8 * length dst.old) × (to + n < 2 ^ 64) × (at + n ≤ 8 * length src.now) × (at + n < 2 ^ 64) }
+    requires { Lies dst.old to n × Lies src.now at n }
     ensures { dst.new ≡ put_bits dst.old to (run src.now at n) }
 {
     if n <= 56 {
@@ -136,15 +124,12 @@ pub fn copy_bits(
     send: usize,
     at: usize,
     n: usize,
-) -> Put
+) -> Option<usize>
     ensures { left result dst.new ≡ copy_run dst.old dend to src.now send at n }
 {
-    if within(src.len(), send, at, n) {
-        if within(dst.len(), dend, to, n) {
-            copy_run(dst, to, src, at, n);
-            return Put::Next(to + n);
-        }
-        return Put::Full;
+    if within(src.len(), send, at, n) && within(dst.len(), dend, to, n) {
+        copy_run(dst, to, src, at, n);
+        return Some(to + n);
     }
-    Put::Full
+    None
 }

@@ -1,10 +1,10 @@
 // Eight bytes as one number, at any byte of a slice.
 ghost use Rattle.std.specs.Prelude.{◌≡◌, true, ◌+◌, ◌-◌, ◌*◌, ◌/◌, ◌%◌, ◌^◌, ◌<◌, ◌≤◌, length};
 ghost use Rattle.std.proofs.lemmas.List.Edits.{sets};
-ghost use Rattle.bits.specs.Bits.{bits_n, num_of, run};
+ghost use Rattle.bits.specs.Bits.{bits_n, Lies, num_of, run};
 ghost use Rattle.bits.specs.Put.{put_bits};
 
-use crate::common::{least, pow2, wide};
+use crate::common::pow2;
 
 // The number that four bytes say. A loop of exactly four turns: the compiler makes one load of it.
 fn four_at(s: &[u8], q: usize) -> u64
@@ -12,15 +12,14 @@ fn four_at(s: &[u8], q: usize) -> u64
     ensures { result ≡ num_of (run s.now (8 * q) 32) }
 {
     let mut v: u64 = 0;
-    let mut i: usize = 0;
-    while i < 4 {
-        v = v * 256 + wide(s[q + i]);
-        i += 1;
+    for i in 0..4 {
+        v = v * 256 + s[q + i] as u64;
     }
     v
 }
 
-// The number that eight bytes say. The compiler makes one load of it where it sees two of four bytes, and not always of eight bytes in a row.
+// The number that eight bytes say. The compiler makes one load of it where it sees two of four bytes, and not always of eight bytes in a row,
+// as `u64::from_be_bytes` has them.
 pub(crate) fn eight_at(s: &[u8], q: usize) -> u64
     requires { q + 8 ≤ length s.now }
     ensures { result ≡ num_of (run s.now (8 * q) 64) }
@@ -34,7 +33,7 @@ pub(crate) fn eight_of_nine(s: &[u8], q: usize, r: usize) -> u64
     ensures { result ≡ num_of (run s.now (8 * q + r) 64) }
 {
     let w = eight_at(s, q);
-    let b = wide(s[q + 8]);
+    let b = s[q + 8] as u64;
     (w << r) + (b >> (8 - r))
 }
 
@@ -43,10 +42,8 @@ pub(crate) fn put_eight(buf: &mut [u8], q: usize, w: u64)
     requires { q + 8 ≤ length buf.old }
     ensures { buf.new ≡ put_bits buf.old (8 * q) (bits_n 64 w) }
 {
-    let mut i: usize = 0;
-    while i < 8 {
+    for i in 0..8 {
         buf[q + i] = ((w >> (56 - 8 * i)) % 256) as u8;
-        i += 1;
     }
 }
 
@@ -55,13 +52,7 @@ pub(crate) fn in_eight(len: usize, at: usize, n: usize) -> bool
     requires { n ≤ 64 }
     ensures { result ≡ true → (8 ≤ len) × (0 < n) × (at % 8 + n ≤ 64) }
 {
-    if len < 8 {
-        return false;
-    }
-    if n == 0 {
-        return false;
-    }
-    at % 8 + n <= 64
+    8 <= len && 0 < n && at % 8 + n <= 64
 }
 
 // The n bits of a number after its first r.
@@ -74,10 +65,10 @@ fn part_of(w: u64, r: usize, n: usize) -> u64
 
 // The number that n bits say that lie within eight bytes: the last eight, where the bits stand behind their first byte.
 pub(crate) fn number_in_eight(s: &[u8], at: usize, n: usize) -> u64
-    requires { (at + n ≤ 8 * length s.now) × (at + n < 2 ^ 64) × (8 ≤ length s.now) × (0 < n) × (at % 8 + n ≤ 64) }
+    requires { Lies s.now at n × (8 ≤ length s.now) × (0 < n) × (at % 8 + n ≤ 64) }
     ensures { result ≡ num_of (run s.now at n) }
 {
-    let q = least(at / 8, s.len() - 8);
+    let q = (at / 8).min(s.len() - 8);
     part_of(eight_at(s, q), at - 8 * q, n)
 }
 
@@ -93,10 +84,10 @@ fn with_part(w: u64, r: usize, n: usize, v: u64) -> u64
 
 // The number v put in n bits that lie within eight bytes.
 pub(crate) fn put_in_eight(buf: &mut [u8], at: usize, n: usize, v: u64)
-    requires { (at + n ≤ 8 * length buf.old) × (at + n < 2 ^ 64) × (8 ≤ length buf.old) × (0 < n) × (at % 8 + n ≤ 64) × (v < 2 ^ n) }
+    requires { Lies buf.old at n × (8 ≤ length buf.old) × (0 < n) × (at % 8 + n ≤ 64) × (v < 2 ^ n) }
     ensures { buf.new ≡ put_bits buf.old at (bits_n n v) }
 {
-    let q = least(at / 8, buf.len() - 8);
+    let q = (at / 8).min(buf.len() - 8);
     let w = eight_at(buf, q);
     let x = with_part(w, at - 8 * q, n, v);
     put_eight(buf, q, x);

@@ -5,10 +5,7 @@ ghost use Rattle.std.specs.Prelude.{◌≡◌, ◌+◌, ◌*◌, min, leb};
 pub fn within(len: usize, end: usize, at: usize, n: usize) -> bool
     ensures { result ≡ leb (at + n) (min end (8 * len)) }
 {
-    if end < at {
-        return false;
-    }
-    if end - at < n {
+    if end < at || end - at < n {
         return false;
     }
     let after = at + n;

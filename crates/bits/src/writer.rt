@@ -1,11 +1,10 @@
 // A number written as a run of bits: by eight bytes where they are there, else a turn for each byte that it touches; every other bit stays.
 ghost use Rattle.std.specs.Prelude.{◌≡◌, ◌&&◌, ◌+◌, ◌-◌, ◌*◌, ◌%◌, ◌^◌, ◌<◌, ◌≤◌, leb, ltb, length};
 ghost use Rattle.std.proofs.lemmas.List.Edits.{sets};
-ghost use Rattle.bits.specs.Bits.{bits_n, num_of};
+ghost use Rattle.bits.specs.Bits.{bits_n, Lies, num_of};
 ghost use Rattle.bits.specs.Put.{left, put_bits, put_number, to_byte};
 
-use crate::Put;
-use crate::common::{in_one, least, pow2, wide};
+use crate::common::{in_one, pow2};
 use crate::eight_bytes::{in_eight, put_in_eight};
 use crate::extent::within;
 
@@ -16,19 +15,19 @@ fn with_piece(x: u8, r: usize, k: usize, p: u64) -> u8
 {
     let low = pow2(8 - r - k);
     let above = pow2(8 - r);
-    let w = wide(x);
+    let w = x as u64;
     (w / above * above + p * low + w % low) as u8
 }
 
-// The n low bits of v put at a place, byte by byte.
+// The n low bits of v put at a place, byte by byte. A turn puts as many bits as its byte has left, so the loop is no `for`.
 fn put_by_bytes(buf: &mut [u8], at: usize, n: usize, v: u64)
-    requires { (at + n ≤ 8 * length buf.old) × (at + n < 2 ^ 64) × (n ≤ 64) }
+    requires { Lies buf.old at n × (n ≤ 64) }
     ensures { buf.new ≡ put_bits buf.old at (bits_n n v) }
 {
     let mut i: usize = 0;
     while i < n {
         let p = at + i;
-        let k = least(n - i, 8 - p % 8);
+        let k = (n - i).min(8 - p % 8);
         let q = p / 8;
         let part = (v >> (n - i - k)) % pow2(k);
         buf[q] = with_piece(buf[q], p % 8, k, part);
@@ -38,7 +37,7 @@ fn put_by_bytes(buf: &mut [u8], at: usize, n: usize, v: u64)
 
 // The number v put in n bits that lie within eight bytes, or do not.
 fn put_wider(buf: &mut [u8], at: usize, n: usize, v: u64)
-    requires { (at + n ≤ 8 * length buf.old) × (at + n < 2 ^ 64) × (n ≤ 64) × (v < 2 ^ n) }
+    requires { Lies buf.old at n × (n ≤ 64) × (v < 2 ^ n) }
     ensures { buf.new ≡ put_bits buf.old at (bits_n n v) }
 {
     if in_eight(buf.len(), at, n) {
@@ -50,7 +49,7 @@ fn put_wider(buf: &mut [u8], at: usize, n: usize, v: u64)
 
 // The number v put in n bits at a place: most fields lie within one byte.
 pub(crate) fn put_number_at(buf: &mut [u8], at: usize, n: usize, v: u64)
-    requires { (at + n ≤ 8 * length buf.old) × (at + n < 2 ^ 64) × (n ≤ 64) × (v < 2 ^ n) }
+    requires { Lies buf.old at n × (n ≤ 64) × (v < 2 ^ n) }
     ensures { buf.new ≡ put_bits buf.old at (bits_n n v) }
 {
     if in_one(at, n) {
@@ -61,52 +60,27 @@ pub(crate) fn put_number_at(buf: &mut [u8], at: usize, n: usize, v: u64)
     }
 }
 
-// Zeros put in n bits that lie within one byte.
-fn put_zeros(buf: &mut [u8], at: usize, n: usize)
-    requires { (at % 8 + n ≤ 8) × (at + n ≤ 8 * length buf.old) }
-    ensures { buf.new ≡ put_bits buf.old at (bits_n n 0) }
-{
-    if n != 0 {
-        let q = at / 8;
-        buf[q] = with_piece(buf[q], at % 8, n, 0);
-    }
-}
-
 // Zeros from a place within the first end bits up to a whole byte.
-pub fn pad(buf: &mut [u8], end: usize, at: usize) -> Put
+pub fn pad(buf: &mut [u8], end: usize, at: usize) -> Option<usize>
     ensures { left result buf.new ≡ put_number buf.old end at (to_byte at) 0 }
 {
-    let n = (8 - at % 8) % 8;
-    if within(buf.len(), end, at, n) {
-        put_zeros(buf, at, n);
-        return Put::Next(at + n);
-    }
-    Put::Full
+    put_bits(buf, end, at, (8 - at % 8) % 8, 0)
 }
 
 // Whether n bits, at most 64 of them, hold v.
 pub(crate) fn holds(n: usize, v: u64) -> bool
     ensures { result ≡ (leb n 64 && ltb v (2 ^ n)) }
 {
-    if 64 < n {
-        return false;
-    }
-    if n == 64 {
-        return true;
-    }
-    v < pow2(n)
+    n == 64 || n < 64 && v < pow2(n)
 }
 
 // The number v in n bits, at a place within the first end bits.
-pub fn put_bits(buf: &mut [u8], end: usize, at: usize, n: usize, v: u64) -> Put
+pub fn put_bits(buf: &mut [u8], end: usize, at: usize, n: usize, v: u64) -> Option<usize>
     ensures { left result buf.new ≡ put_number buf.old end at n v }
 {
-    if holds(n, v) {
-        if within(buf.len(), end, at, n) {
-            put_number_at(buf, at, n, v);
-            return Put::Next(at + n);
-        }
-        return Put::Full;
+    if holds(n, v) && within(buf.len(), end, at, n) {
+        put_number_at(buf, at, n, v);
+        return Some(at + n);
     }
-    Put::Full
+    None
 }

@@ -15,11 +15,10 @@ use native.Mathlib.Nat.{mod-eq_of_lt, pow-suc}
 use Rattle.words.proofs.Laws.{both_left, both_right}
 use Rattle.book.specs.Books.{octets, eight_at, eights_in, eights, mark, marks, lowest_free, book_of, jobs_in, is_book, load_at, left, empty_at, opening, open_at, closing, close_at, count_at, job_at}
 use Rattle.book.specs.declared.BookRefusal.TheVariants.{Shape, AllOpen, NotOpen}
-use Rattle.book.specs.declared.Answer.TheVariants.{Is, Refused}
-use Rattle.book.specs.declared.loaded.Loaded.{Loaded}
-use Rattle.book.specs.declared.loaded.Loaded.TheVariants.{Open, NoBook}
+use Rattle.book.specs.declared.BookRefusal.{BookRefusal}
 use Rattle.book.proofs.Eights.{Bytes, Wide, length_octets, number_octets, eight_of, eight_drop, length_in, length_eights, eights_back, eights_read, eights_set}
 use Rattle.book.proofs.Marks.{marks_nil, marks_cons, marks_lt, zeros_free, free_le, free_closed, ones_count, marks_open, marks_close}
+use Rattle.std.specs.Prelude.{Err, Ok, Result}
 
 -- ---- a book and its jobs
 
@@ -123,16 +122,16 @@ turn_lt m v i h g pos le =
 
 -- ---- the ways out of `load`
 
-pub load_long : (b : List ℕ) → (length b ≡ 520 → ⊥) → NoBook ≡ load_at b
+pub load_long : (b : List ℕ) → (length b ≡ 520 → ⊥) → Err Shape ≡ load_at b
 unfolding load_at is_book
 load_long b h = rw (ne_eqb (length b) 520 h)
 
 module _ (b : List ℕ) (l : length b ≡ 520) (w : ℕ) (p : w ≡ marks (jobs_in b)) (e : ℕ) (q : e ≡ eight_at b 0) where
-  pub load_is : e ≡ w → Open w ≡ load_at b
+  pub load_is : e ≡ w → Ok w ≡ load_at b
   unfolding load_at is_book
   load_is h = rw (eq-eqb (length b) 520 l, ← q, ← p, eq-eqb e w h)
 
-  pub load_not : (e ≡ w → ⊥) → NoBook ≡ load_at b
+  pub load_not : (e ≡ w → ⊥) → Err Shape ≡ load_at b
   unfolding load_at is_book
   load_not h = rw (eq-eqb (length b) 520 l, ← q, ← p, ne_eqb e w h)
 
@@ -142,25 +141,25 @@ pub record Known (b : List ℕ) (w : ℕ) : Type 0 where
   pub book : is_book b ≡ true
   pub open_is : w ≡ marks (jobs_in b)
 
-known_of : (b : List ℕ) (t : Bool) (w : ℕ) → is_book b ≡ t → cond t (Open (marks (jobs_in b))) NoBook ≡ Open w → Known b w
+known_of : (b : List ℕ) (t : Bool) (w : ℕ) → is_book b ≡ t → cond {A = Result ℕ BookRefusal} t (Ok (marks (jobs_in b))) (Err Shape) ≡ Ok w → Known b w
 known_of b true w e h = record { book = e; open_is = cc }
 known_of b false w e h = let z : ◌≡◌ {A = ℕ} 0 1 = cc in absurd (omega arith)
 
-pub is_known : (b : List ℕ) (l : Loaded) (w : ℕ) → l ≡ load_at b → l ≡ Open w → Known b w
+pub is_known : (b : List ℕ) (l : Result ℕ BookRefusal) (w : ℕ) → l ≡ load_at b → l ≡ Ok w → Known b w
 unfolding load_at
 is_known b l w p q = known_of b (is_book b) w refl (sym p ∙ q)
 
-not_of : (t : Bool) (w : ℕ) → cond t (Open w) NoBook ≡ NoBook → t ≡ false
-not_of true w h = let z : ◌≡◌ {A = ℕ} 0 1 = cc in absurd (omega arith)
-not_of false w h = refl
+not_of : (t : Bool) (w : ℕ) (r : BookRefusal) → cond {A = Result ℕ BookRefusal} t (Ok w) (Err Shape) ≡ Err r → t ≡ false
+not_of true w r h = let z : ◌≡◌ {A = ℕ} 0 1 = cc in absurd (omega arith)
+not_of false w r h = refl
 
-pub not_known : (b : List ℕ) (l : Loaded) → l ≡ load_at b → l ≡ NoBook → is_book b ≡ false
+pub not_known : (b : List ℕ) (l : Result ℕ BookRefusal) (r : BookRefusal) → l ≡ load_at b → l ≡ Err r → is_book b ≡ false
 unfolding load_at
-not_known b l p q = not_of (is_book b) (marks (jobs_in b)) (sym p ∙ q)
+not_known b l r p q = not_of (is_book b) (marks (jobs_in b)) r (sym p ∙ q)
 
 -- ---- emptying
 
-pub empty_long : (b : List ℕ) → (length b ≡ 520 → ⊥) → left (Refused Shape) b ≡ empty_at b
+pub empty_long : (b : List ℕ) → (length b ≡ 520 → ⊥) → left (Err Shape) b ≡ empty_at b
 unfolding empty_at
 empty_long b h = rw (ne_eqb (length b) 520 h)
 
@@ -169,21 +168,21 @@ unfolding book_of eights octets marks
 zeros = refl
 
 -- all bytes were filled
-pub empty_is : (b z : List ℕ) (i : ℕ) → length b ≡ 520 → i ≡ 520 → z ≡ replicate i 0 ++ drop i b → left (Is 0) z ≡ empty_at b
+pub empty_is : (b z : List ℕ) (i : ℕ) → length b ≡ 520 → i ≡ 520 → z ≡ replicate i 0 ++ drop i b → left (Ok 0) z ≡ empty_at b
 unfolding empty_at
 empty_is b z i l e p =
     let d : drop i b ≡ [] = drop_of_length-le b {i = i} (omega arith) in
     let w : z ≡ replicate 520 0 = p ∙ (rw (d, e) (append-nil (replicate 520 0))) in
-    rw (eq-eqb (length b) 520 l) (ap (left (Is 0)) (w ∙ sym zeros))
+    rw (eq-eqb (length b) 520 l) (ap (left (Ok 0)) (w ∙ sym zeros))
 
 -- ---- opening
 
-pub open_zero : (b : List ℕ) (j : ℕ) → j ≡ 0 → left (Refused Shape) b ≡ open_at b j
+pub open_zero : (b : List ℕ) (j : ℕ) → j ≡ 0 → left (Err Shape) b ≡ open_at b j
 unfolding open_at
 open_zero b j h = rw (eq-eqb j 0 h)
 
 module _ (b : List ℕ) (j : ℕ) (pos : j ≡ 0 → ⊥) where
-  pub open_none : is_book b ≡ false → left (Refused Shape) b ≡ open_at b j
+  pub open_none : is_book b ≡ false → left (Err Shape) b ≡ open_at b j
   unfolding open_at
   open_none h = rw (ne_eqb j 0 pos, h)
 
@@ -198,7 +197,7 @@ module _ (b : List ℕ) (j : ℕ) (pos : j ≡ 0 → ⊥) where
     unfolding open_at
     opens = rw (ne_eqb j 0 pos, k.book)
 
-    pub open_full : n ≡ 64 → left (Refused AllOpen) b ≡ open_at b j
+    pub open_full : n ≡ 64 → left (Err AllOpen) b ≡ open_at b j
     unfolding opening
     open_full h = rw (opens, ← free, eq-eqb n 64 h)
 
@@ -219,24 +218,20 @@ module _ (b : List ℕ) (j : ℕ) (pos : j ≡ 0 → ⊥) where
       open_fits = rw bits_of (rw (length-set (jobs_in b) n j, length_jobs b) at (marks_lt (set (jobs_in b) n j)))
 
       pub open_is : (x : ℕ) (y z : List ℕ) → Bytes b → x ≡ 2 ^ n → y ≡ sets b 0 (octets 8 (w + x))
-          → z ≡ sets y (8 * (n + 1)) (octets 8 j) → left (Is n) z ≡ open_at b j
+          → z ≡ sets y (8 * (n + 1)) (octets 8 j) → left (Ok n) z ≡ open_at b j
       unfolding opening
       open_is x y z bs e p q =
           let m : w + x ≡ marks (set (jobs_in b) n j) = ap (λ (i : ℕ). w + i) e ∙ bits_of in
-          rw (opens, ← free, ne_eqb n 64 some) (ap (left (Is n)) (written b n j (w + x) y z bs k.book lower m p q))
+          rw (opens, ← free, ne_eqb n 64 some) (ap (left (Ok n)) (written b n j (w + x) y z bs k.book lower m p q))
 
 -- ---- closing
-
-pub close_none : (b : List ℕ) (n : ℕ) → is_book b ≡ false → left (Refused Shape) b ≡ close_at b n
-unfolding close_at
-close_none b n h = rw h
 
 module _ (b : List ℕ) (n w : ℕ) (k : Known b w) where
   closes : close_at b n ≡ closing b n (jobs_in b)
   unfolding close_at
   closes = rw k.book
 
-  pub close_above : 64 ≤ n → left (Refused NotOpen) b ≡ close_at b n
+  pub close_above : 64 ≤ n → left (Err NotOpen) b ≡ close_at b n
   unfolding closing
   close_above h = rw (closes, get_or-eq_default (jobs_in b) 0 {n = n} (rw (length_jobs b) h))
 
@@ -244,7 +239,7 @@ module _ (b : List ℕ) (n w : ℕ) (k : Known b w) where
     job_is : j ≡ get_or (jobs_in b) n 0
     job_is = p ∙ sym (job_place b n lower)
 
-    pub close_not : j ≡ 0 → left (Refused NotOpen) b ≡ close_at b n
+    pub close_not : j ≡ 0 → left (Err NotOpen) b ≡ close_at b n
     unfolding closing
     close_not h = rw (closes, eq-eqb (get_or (jobs_in b) n 0) 0 (sym job_is ∙ h))
 
@@ -259,21 +254,17 @@ module _ (b : List ℕ) (n w : ℕ) (k : Known b w) where
       close_le = omega (arith, bits_left)
 
       pub close_is : (x : ℕ) (y z : List ℕ) → Bytes b → x ≡ 2 ^ n → y ≡ sets b 0 (octets 8 (w - x))
-          → z ≡ sets y (8 * (n + 1)) (octets 8 0) → left (Is 0) z ≡ close_at b n
+          → z ≡ sets y (8 * (n + 1)) (octets 8 0) → left (Ok 0) z ≡ close_at b n
       unfolding closing
       close_is x y z bs e q r =
           let m : w - x ≡ marks (set (jobs_in b) n 0) = omega (arith, bits_left) in
-          rw (closes, ne_eqb (get_or (jobs_in b) n 0) 0 open_now) (ap (left (Is 0)) (written b n 0 (w - x) y z bs k.book lower m q r))
+          rw (closes, ne_eqb (get_or (jobs_in b) n 0) 0 open_now) (ap (left (Ok 0)) (written b n 0 (w - x) y z bs k.book lower m q r))
 
 -- ---- the count, and the job of a number
 
-pub count_none : (b : List ℕ) → is_book b ≡ false → Refused Shape ≡ count_at b
+pub count_is : (b : List ℕ) (w n : ℕ) → Known b w → n ≡ ones w → Ok n ≡ count_at b
 unfolding count_at
-count_none b h = rw h
-
-pub count_is : (b : List ℕ) (w n : ℕ) → Known b w → n ≡ ones w → Is n ≡ count_at b
-unfolding count_at
-count_is b w n k p = rw k.book (ap Is (p ∙ ap ones k.open_is ∙ ones_count (jobs_in b)))
+count_is b w n k p = rw k.book (ap Ok (p ∙ ap ones k.open_is ∙ ones_count (jobs_in b)))
 
 pub job_none : (b : List ℕ) (n : ℕ) → is_book b ≡ false → 0 ≡ job_at b n
 unfolding job_at

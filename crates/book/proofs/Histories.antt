@@ -13,11 +13,11 @@ use lib.Seq.{ext_get_or, get_or-set_same, get_or-set_other}
 use Rattle.book.specs.Books.{lowest_free, open_count, book_of, jobs_in, is_book, Left, left, empty_at, opening, open_at, closing, close_at, count_at, job_at}
 use Rattle.book.specs.Histories.{Call, empties, opens, closes, opened, closed, History, job_of, listed, jobs_of, closes_number, Orderly, Kept, called, noted, after, run, emptied, Claims}
 use Rattle.book.specs.declared.BookRefusal.TheVariants.{Shape, AllOpen, NotOpen}
-use Rattle.book.specs.declared.Answer.{Answer}
-use Rattle.book.specs.declared.Answer.TheVariants.{Is, Refused}
 use Rattle.book.proofs.Eights.{Wide}
 use Rattle.book.proofs.Marks.{free_le, free_closed, lower_open}
 use Rattle.book.proofs.Books.{jobs_back, length_book, book_of_is, open_zero}
+use Rattle.std.specs.Prelude.{Err, Ok, Result}
+use Rattle.book.specs.declared.BookRefusal.{BookRefusal}
 
 -- ---- the jobs of a history
 
@@ -145,10 +145,10 @@ pub record Fits (k : Kept) : Type 0 where
   pub bytes : k.bytes ≡ book_of (jobs_of k.history)
   pub orderly : Orderly k.history
 
-moved : (k : Kept) (c : Call) (a : Answer) (b : List ℕ) → called k.bytes c ≡ left a b → after k c ≡ record { bytes = b; history = noted c a k.history }
+moved : (k : Kept) (c : Call) (a : Result ℕ BookRefusal) (b : List ℕ) → called k.bytes c ≡ left a b → after k c ≡ record { bytes = b; history = noted c a k.history }
 moved k c a b e = ap (λ (l : Left). record { bytes = l.bytes; history = noted c l.answer k.history }) e
 
-arrives : (k : Kept) (c : Call) (a : Answer) (b : List ℕ) → called k.bytes c ≡ left a b → Fits (record { bytes = b; history = noted c a k.history }) → Fits (after k c)
+arrives : (k : Kept) (c : Call) (a : Result ℕ BookRefusal) (b : List ℕ) → called k.bytes c ≡ left a b → Fits (record { bytes = b; history = noted c a k.history }) → Fits (after k c)
 arrives k c a b e f = subst Fits (sym (moved k c a b e)) f
 
 -- the calls on the bytes of an orderly history
@@ -198,24 +198,24 @@ module _ (h : History) (o : Orderly h) where
         orderly = (record { number = l; was_open = λ (x : job_of h n ≡ 0). e (job_in h n l ∙ x) }, o);
       }
 
-is_full : (b : List ℕ) (j : ℕ) (js : List ℕ) → lowest_free js ≡ 64 → opening b j js ≡ left (Refused AllOpen) b
+is_full : (b : List ℕ) (j : ℕ) (js : List ℕ) → lowest_free js ≡ 64 → opening b j js ≡ left (Err AllOpen) b
 unfolding opening
 is_full b j js e = rw (eq-eqb (lowest_free js) 64 e)
 
 is_given : (b : List ℕ) (j : ℕ) (js : List ℕ) → (lowest_free js ≡ 64 → ⊥)
-    → opening b j js ≡ left (Is (lowest_free js)) (book_of (set js (lowest_free js) j))
+    → opening b j js ≡ left (Ok (lowest_free js)) (book_of (set js (lowest_free js) j))
 unfolding opening
 is_given b j js e = rw (ne_eqb (lowest_free js) 64 e)
 
-is_closed : (b : List ℕ) (n : ℕ) (js : List ℕ) → get_or js n 0 ≡ 0 → closing b n js ≡ left (Refused NotOpen) b
+is_closed : (b : List ℕ) (n : ℕ) (js : List ℕ) → get_or js n 0 ≡ 0 → closing b n js ≡ left (Err NotOpen) b
 unfolding closing
 is_closed b n js e = rw (eq-eqb (get_or js n 0) 0 e)
 
-is_open : (b : List ℕ) (n : ℕ) (js : List ℕ) → (get_or js n 0 ≡ 0 → ⊥) → closing b n js ≡ left (Is 0) (book_of (set js n 0))
+is_open : (b : List ℕ) (n : ℕ) (js : List ℕ) → (get_or js n 0 ≡ 0 → ⊥) → closing b n js ≡ left (Ok 0) (book_of (set js n 0))
 unfolding closing
 is_open b n js e = rw (ne_eqb (get_or js n 0) 0 e)
 
-empty_is : (b : List ℕ) → length b ≡ 520 → empty_at b ≡ left (Is 0) (book_of (jobs_of []))
+empty_is : (b : List ℕ) → length b ≡ 520 → empty_at b ≡ left (Ok 0) (book_of (jobs_of []))
 unfolding empty_at listed job_of
 empty_is b l = rw (eq-eqb (length b) 520 l)
 
@@ -223,22 +223,22 @@ empty_is b l = rw (eq-eqb (length b) 520 l)
 keeps : (k : Kept) (c : Call) → Fits k → Fits (after k c)
 keeps k empties f =
     let h = k.history in
-    let e : called k.bytes empties ≡ left (Is 0) (book_of (jobs_of [])) = ap empty_at f.bytes ∙ empty_is
+    let e : called k.bytes empties ≡ left (Ok 0) (book_of (jobs_of [])) = ap empty_at f.bytes ∙ empty_is
     (book_of (jobs_of h)) (long h f.orderly) in
-    arrives k empties (Is 0) (book_of (jobs_of [])) e (still [] tt)
+    arrives k empties (Ok 0) (book_of (jobs_of [])) e (still [] tt)
 keeps k (opens j width) f =
     let h = k.history in
     let b = book_of (jobs_of h) in
     let o = f.orderly in
     let e : open_at k.bytes j ≡ open_at b j = ap (λ (x : List ℕ). open_at x j) f.bytes in
     elim (ℕ_discrete j 0) [
-      | yes z ↦ arrives k (opens j width) (Refused Shape) b (e ∙ sym (open_zero b j z)) (still h o)
+      | yes z ↦ arrives k (opens j width) (Err Shape) b (e ∙ sym (open_zero b j z)) (still h o)
       | no pos ↦
           elim (ℕ_discrete (lowest_free (jobs_of h)) 64) [
-            | yes z ↦ arrives k (opens j width) (Refused AllOpen) b (e ∙ opens_is h o j pos ∙ is_full b j (jobs_of h) z) (still h o)
+            | yes z ↦ arrives k (opens j width) (Err AllOpen) b (e ∙ opens_is h o j pos ∙ is_full b j (jobs_of h) z) (still h o)
             | no z ↦
                 let l : lowest_free (jobs_of h) < 64 = omega (arith, free_le (jobs_of h), length_jobs h) in
-                arrives k (opens j width) (Is (lowest_free (jobs_of h))) (book_of (set (jobs_of h) (lowest_free (jobs_of h)) j))
+                arrives k (opens j width) (Ok (lowest_free (jobs_of h))) (book_of (set (jobs_of h) (lowest_free (jobs_of h)) j))
                 (e ∙ opens_is h o j pos ∙ is_given b j (jobs_of h) z) (opened_fits h o j (lowest_free (jobs_of h)) width pos refl l)
           ]
     ]
@@ -248,8 +248,8 @@ keeps k (closes n) f =
     let o = f.orderly in
     let e : close_at k.bytes n ≡ close_at b n = ap (λ (x : List ℕ). close_at x n) f.bytes in
     elim (ℕ_discrete (get_or (jobs_of h) n 0) 0) [
-      | yes z ↦ arrives k (closes n) (Refused NotOpen) b (e ∙ closes_is h o n ∙ is_closed b n (jobs_of h) z) (still h o)
-      | no z ↦ arrives k (closes n) (Is 0) (book_of (set (jobs_of h) n 0))
+      | yes z ↦ arrives k (closes n) (Err NotOpen) b (e ∙ closes_is h o n ∙ is_closed b n (jobs_of h) z) (still h o)
+      | no z ↦ arrives k (closes n) (Ok 0) (book_of (set (jobs_of h) n 0))
           (e ∙ closes_is h o n ∙ is_open b n (jobs_of h) z) (closed_fits h o n (within (jobs_of h) n (length_jobs h) z) z)
     ]
   where
@@ -276,7 +276,7 @@ read_job h o n =
       | no l ↦ get_or-eq_default (jobs_of h) 0 {n = n} (rw (length_jobs h) (omega arith)) ∙ sym (none_above h o n (omega arith))
     ])
 
-read_count : (h : History) → Orderly h → count_at (book_of (jobs_of h)) ≡ Is (open_count (jobs_of h))
+read_count : (h : History) → Orderly h → count_at (book_of (jobs_of h)) ≡ Ok (open_count (jobs_of h))
 unfolding count_at
 read_count h o = rw (book h o, same h o)
 

@@ -12,53 +12,53 @@ use lib.ListN.{length, get_or, set, replicate}
 use Rattle.book.specs.Books.{lowest_free, open_count, book_of, jobs_in, is_book, Left, left, empty_at, opening, open_at, closing, close_at, count_at, job_at}
 use Rattle.book.specs.declared.BookRefusal.{BookRefusal}
 use Rattle.book.specs.declared.BookRefusal.TheVariants.{Shape, AllOpen, NotOpen}
-use Rattle.book.specs.declared.Answer.TheVariants.{Is, Refused}
 use Rattle.book.proofs.Marks.{free_le, free_closed, lower_open, count_le, count_free, free_count}
 use Rattle.book.proofs.Books.{length_jobs}
+use Rattle.std.specs.Prelude.{Err, Ok}
 
 -- ---- "the book stays"
 
 -- a call that is refused or leaves b
-stays : (t : Bool) (b : List ℕ) (x : Left) (r s : BookRefusal) → (x.answer ≡ Refused r → x.bytes ≡ b)
-    → (cond t (left (Refused s) b) x).answer ≡ Refused r
-    → (cond t (left (Refused s) b) x).bytes ≡ b
+stays : (t : Bool) (b : List ℕ) (x : Left) (r s : BookRefusal) → (x.answer ≡ Err r → x.bytes ≡ b)
+    → (cond t (left (Err s) b) x).answer ≡ Err r
+    → (cond t (left (Err s) b) x).bytes ≡ b
 stays true b x r s h e = refl
 stays false b x r s h e = h e
 
 -- or one that is taken, and else refused
-stays_else : (t : Bool) (b : List ℕ) (x : Left) (r s : BookRefusal) → (x.answer ≡ Refused r → x.bytes ≡ b)
-    → (cond t x (left (Refused s) b)).answer ≡ Refused r
-    → (cond t x (left (Refused s) b)).bytes ≡ b
+stays_else : (t : Bool) (b : List ℕ) (x : Left) (r s : BookRefusal) → (x.answer ≡ Err r → x.bytes ≡ b)
+    → (cond t x (left (Err s) b)).answer ≡ Err r
+    → (cond t x (left (Err s) b)).bytes ≡ b
 stays_else true b x r s h e = h e
 stays_else false b x r s h e = refl
 
-taken : (n : ℕ) (b c : List ℕ) (r : BookRefusal) → (left (Is n) c).answer ≡ Refused r → (left (Is n) c).bytes ≡ b
+taken : (n : ℕ) (b c : List ℕ) (r : BookRefusal) → (left (Ok n) c).answer ≡ Err r → (left (Ok n) c).bytes ≡ b
 taken n b c r e = let z : ◌≡◌ {A = ℕ} 0 1 = cc in absurd (omega arith)
 
-pub empty_stays : (b : List ℕ) (r : BookRefusal) → (empty_at b).answer ≡ Refused r → (empty_at b).bytes ≡ b
+pub empty_stays : (b : List ℕ) (r : BookRefusal) → (empty_at b).answer ≡ Err r → (empty_at b).bytes ≡ b
 unfolding empty_at
-empty_stays b r e = stays_else (eqb (length b) 520) b (left (Is 0) (book_of (replicate 64 0))) r Shape
+empty_stays b r e = stays_else (eqb (length b) 520) b (left (Ok 0) (book_of (replicate 64 0))) r Shape
     (taken 0 b (book_of (replicate 64 0)) r) e
 
-opening_stays : (b : List ℕ) (j : ℕ) (r : BookRefusal) → (opening b j (jobs_in b)).answer ≡ Refused r → (opening b j (jobs_in b)).bytes ≡ b
+opening_stays : (b : List ℕ) (j : ℕ) (r : BookRefusal) → (opening b j (jobs_in b)).answer ≡ Err r → (opening b j (jobs_in b)).bytes ≡ b
 unfolding opening
 opening_stays b j r e =
     let n = lowest_free (jobs_in b) in
-    stays (eqb n 64) b (left (Is n) (book_of (set (jobs_in b) n j))) r AllOpen (taken n b (book_of (set (jobs_in b) n j)) r) e
+    stays (eqb n 64) b (left (Ok n) (book_of (set (jobs_in b) n j))) r AllOpen (taken n b (book_of (set (jobs_in b) n j)) r) e
 
-pub open_stays : (b : List ℕ) (j : ℕ) (r : BookRefusal) → (open_at b j).answer ≡ Refused r → (open_at b j).bytes ≡ b
+pub open_stays : (b : List ℕ) (j : ℕ) (r : BookRefusal) → (open_at b j).answer ≡ Err r → (open_at b j).bytes ≡ b
 unfolding open_at
 open_stays b j r e =
-    stays (eqb j 0) b (cond (is_book b) (opening b j (jobs_in b)) (left (Refused Shape) b)) r Shape
+    stays (eqb j 0) b (cond (is_book b) (opening b j (jobs_in b)) (left (Err Shape) b)) r Shape
     (stays_else (is_book b) b (opening b j (jobs_in b)) r Shape (opening_stays b j r)) e
 
-closing_stays : (b : List ℕ) (n : ℕ) (r : BookRefusal) → (closing b n (jobs_in b)).answer ≡ Refused r → (closing b n (jobs_in b)).bytes ≡ b
+closing_stays : (b : List ℕ) (n : ℕ) (r : BookRefusal) → (closing b n (jobs_in b)).answer ≡ Err r → (closing b n (jobs_in b)).bytes ≡ b
 unfolding closing
 closing_stays b n r e =
-    stays (eqb (get_or (jobs_in b) n 0) 0) b (left (Is 0) (book_of (set (jobs_in b) n 0))) r NotOpen
+    stays (eqb (get_or (jobs_in b) n 0) 0) b (left (Ok 0) (book_of (set (jobs_in b) n 0))) r NotOpen
     (taken 0 b (book_of (set (jobs_in b) n 0)) r) e
 
-pub close_stays : (b : List ℕ) (n : ℕ) (r : BookRefusal) → (close_at b n).answer ≡ Refused r → (close_at b n).bytes ≡ b
+pub close_stays : (b : List ℕ) (n : ℕ) (r : BookRefusal) → (close_at b n).answer ≡ Err r → (close_at b n).bytes ≡ b
 unfolding close_at
 close_stays b n r e = stays_else (is_book b) b (closing b n (jobs_in b)) r Shape (closing_stays b n r) e
 
@@ -75,7 +75,7 @@ job_of : (b : List ℕ) → is_book b ≡ true → (n : ℕ) → job_at b n ≡ 
 unfolding job_at
 job_of b t n = rw t
 
-pub given_lowest : (b : List ℕ) (j n : ℕ) → (open_at b j).answer ≡ Is n → Given b j n
+pub given_lowest : (b : List ℕ) (j n : ℕ) → (open_at b j).answer ≡ Ok n → Given b j n
 unfolding open_at opening
 given_lowest b j n e = go (eqb j 0) (is_book b) (eqb (lowest_free (jobs_in b)) 64) refl refl refl e
   where
@@ -86,10 +86,10 @@ given_lowest b j n e = go (eqb j 0) (is_book b) (eqb (lowest_free (jobs_in b)) 6
     f = lowest_free (jobs_in b)
 
     all : Bool → Bool → Bool → Left
-    all t0 t1 t2 = cond t0 (left (Refused Shape) b)
-        (cond t1 (cond t2 (left (Refused AllOpen) b) (left (Is f) (book_of (set js f j)))) (left (Refused Shape) b))
+    all t0 t1 t2 = cond t0 (left (Err Shape) b)
+        (cond t1 (cond t2 (left (Err AllOpen) b) (left (Ok f) (book_of (set js f j)))) (left (Err Shape) b))
 
-    go : (t0 t1 t2 : Bool) → eqb j 0 ≡ t0 → is_book b ≡ t1 → eqb f 64 ≡ t2 → (all t0 t1 t2).answer ≡ Is n → Given b j n
+    go : (t0 t1 t2 : Bool) → eqb j 0 ≡ t0 → is_book b ≡ t1 → eqb f 64 ≡ t2 → (all t0 t1 t2).answer ≡ Ok n → Given b j n
     go true t1 t2 p q r e = let z : ◌≡◌ {A = ℕ} 0 1 = cc in absurd (omega arith)
     go false false t2 p q r e = let z : ◌≡◌ {A = ℕ} 0 1 = cc in absurd (omega arith)
     go false true true p q r e = let z : ◌≡◌ {A = ℕ} 0 1 = cc in absurd (omega arith)
@@ -110,13 +110,13 @@ full : (b : List ℕ) (j : ℕ) → is_book b ≡ true → (j ≡ 0 → ⊥) →
 unfolding open_at
 full b j t pos = rw (ne_eqb j 0 pos, t)
 
-pub all_open : (b : List ℕ) (j : ℕ) → (j ≡ 0 → ⊥) → is_book b ≡ true → open_count (jobs_in b) ≡ 64 → open_at b j ≡ left (Refused AllOpen) b
+pub all_open : (b : List ℕ) (j : ℕ) → (j ≡ 0 → ⊥) → is_book b ≡ true → open_count (jobs_in b) ≡ 64 → open_at b j ≡ left (Err AllOpen) b
 unfolding opening
 all_open b j pos t e =
     let l : lowest_free (jobs_in b) ≡ 64 = free_count (jobs_in b) (e ∙ sym (length_jobs b)) ∙ length_jobs b in
     rw (full b j t pos, eq-eqb (lowest_free (jobs_in b)) 64 l)
 
-pub only_all_open : (b : List ℕ) (j : ℕ) → (open_at b j).answer ≡ Refused AllOpen → open_count (jobs_in b) ≡ 64
+pub only_all_open : (b : List ℕ) (j : ℕ) → (open_at b j).answer ≡ Err AllOpen → open_count (jobs_in b) ≡ 64
 unfolding open_at opening
 only_all_open b j e = go (eqb j 0) (is_book b) (eqb (lowest_free (jobs_in b)) 64) refl e
   where
@@ -127,29 +127,29 @@ only_all_open b j e = go (eqb j 0) (is_book b) (eqb (lowest_free (jobs_in b)) 64
     f = lowest_free (jobs_in b)
 
     go : (t0 t1 t2 : Bool) → eqb f 64 ≡ t2
-        → (cond t0 (left (Refused Shape) b) (cond t1
-        (cond t2 (left (Refused AllOpen) b) (left (Is f) (book_of (set js f j)))) (left (Refused Shape) b))).answer
-        ≡ Refused AllOpen
+        → (cond t0 (left (Err Shape) b) (cond t1
+        (cond t2 (left (Err AllOpen) b) (left (Ok f) (book_of (set js f j)))) (left (Err Shape) b))).answer
+        ≡ Err AllOpen
         → open_count js ≡ 64
     go true t1 t2 r e = let z : ◌≡◌ {A = ℕ} 0 1 = cc in absurd (omega arith)
     go false false t2 r e = let z : ◌≡◌ {A = ℕ} 0 1 = cc in absurd (omega arith)
     go false true true r e = count_free js (eqb-true f 64 r ∙ sym (length_jobs b)) ∙ length_jobs b
     go false true false r e = let z : ◌≡◌ {A = ℕ} 0 1 = cc in absurd (omega arith)
 
-pub not_open : (b : List ℕ) (n : ℕ) → is_book b ≡ true → job_at b n ≡ 0 → close_at b n ≡ left (Refused NotOpen) b
+pub not_open : (b : List ℕ) (n : ℕ) → is_book b ≡ true → job_at b n ≡ 0 → close_at b n ≡ left (Err NotOpen) b
 unfolding close_at closing
 not_open b n t e = rw (t, eq-eqb (get_or (jobs_in b) n 0) 0 (sym (job_of b t n) ∙ e))
 
-pub was_open : (b : List ℕ) (n : ℕ) → is_book b ≡ true → (job_at b n ≡ 0 → ⊥) → close_at b n ≡ left (Is 0) (book_of (set (jobs_in b) n 0))
+pub was_open : (b : List ℕ) (n : ℕ) → is_book b ≡ true → (job_at b n ≡ 0 → ⊥) → close_at b n ≡ left (Ok 0) (book_of (set (jobs_in b) n 0))
 unfolding close_at closing
 was_open b n t e = rw (t, ne_eqb (get_or (jobs_in b) n 0) 0 (λ (x : get_or (jobs_in b) n 0 ≡ 0). e (job_of b t n ∙ x)))
 
 -- ---- "the open count" is at most 64
 
-pub count_most : (b : List ℕ) (n : ℕ) → count_at b ≡ Is n → n ≤ 64
+pub count_most : (b : List ℕ) (n : ℕ) → count_at b ≡ Ok n → n ≤ 64
 unfolding count_at
 count_most b n e = go (is_book b) e
   where
-    go : (t : Bool) → cond t (Is (open_count (jobs_in b))) (Refused Shape) ≡ Is n → n ≤ 64
+    go : (t : Bool) → cond t (Ok (open_count (jobs_in b))) (Err Shape) ≡ Ok n → n ≤ 64
     go true q = let s : n ≡ open_count (jobs_in b) = cc in omega (arith, count_le (jobs_in b), length_jobs b)
     go false q = let z : ◌≡◌ {A = ℕ} 0 1 = cc in absurd (omega arith)

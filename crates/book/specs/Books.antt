@@ -5,14 +5,10 @@
 --   8 (n + 1) and the seven bytes after it   the job of number n
 -- each number of eight bytes the most significant byte first. The jobs decide which numbers are open, so the first eight bytes have one
 -- value, and books with the same open numbers and jobs have the same bytes.
-use Rattle.std.specs.Prelude.{ℕ, zero, suc, ◌+◌, ◌*◌, ◌/◌, ◌%◌, ◌^◌, Bool, cond, ◌&&◌, List, [], ◌∷◌, ◌++◌, eqb, length, take, drop, get_or, set, replicate}
+use Rattle.std.specs.Prelude.{ℕ, zero, suc, ◌+◌, ◌*◌, ◌/◌, ◌%◌, ◌^◌, Bool, cond, ◌&&◌, List, [], ◌∷◌, ◌++◌, eqb, length, take, drop, get_or, set, replicate, Err, Ok, Result}
 use Rattle.words.specs.Limits.{shape}
 use Rattle.book.specs.declared.BookRefusal.{BookRefusal}
 use Rattle.book.specs.declared.BookRefusal.TheVariants.{Shape, AllOpen, NotOpen}
-use Rattle.book.specs.declared.Answer.{Answer}
-use Rattle.book.specs.declared.Answer.TheVariants.{Is, Refused}
-use Rattle.book.specs.declared.loaded.Loaded.{Loaded}
-use Rattle.book.specs.declared.loaded.Loaded.TheVariants.{Open, NoBook}
 
 -- document 01, "The numbers a refusal carries", and E2: "7, all 64 are open [..]; 8, closing a number that isn't open or is above 63"
 abbrev pub refusal_number : BookRefusal → ℕ
@@ -87,43 +83,44 @@ jobs_in b = eights_in numbers (drop 8 b)
 unfoldable pub is_book : List ℕ → Bool
 is_book b = eqb (length b) book_bytes && eqb (eight_at b 0) (marks (jobs_in b))
 
-unfoldable pub load_at : List ℕ → Loaded
-load_at b = cond (is_book b) (Open (marks (jobs_in b))) NoBook
+-- the open numbers of a book
+unfoldable pub load_at : List ℕ → Result ℕ BookRefusal
+load_at b = cond (is_book b) (Ok (marks (jobs_in b))) (Err Shape)
 
 -- ---- the calls: what each answers, and the bytes after it
 
 pub record Left : Type 0 where
-  pub answer : Answer
+  pub answer : Result ℕ BookRefusal
   pub bytes : List ℕ
 
-abbrev pub left : Answer → List ℕ → Left
+abbrev pub left : Result ℕ BookRefusal → List ℕ → Left
 left a b = record { answer = a; bytes = b }
 
 -- SHAPE where the bytes are no book, and they stay; or what is done with the jobs
 abbrev pub with_jobs : List ℕ → (List ℕ → Left) → Left
-with_jobs b f = cond (is_book b) (f (jobs_in b)) (left (Refused Shape) b)
+with_jobs b f = cond (is_book b) (f (jobs_in b)) (left (Err Shape) b)
 
 -- "the host empties it by a call": no number is open, whatever the bytes were
 unfoldable pub empty_at : List ℕ → Left
-empty_at b = cond (eqb (length b) book_bytes) (left (Is 0) (book_of (replicate numbers 0))) (left (Refused Shape) b)
+empty_at b = cond (eqb (length b) book_bytes) (left (Ok 0) (book_of (replicate numbers 0))) (left (Err Shape) b)
 
 -- "Opening gives the lowest free of the 64 numbers"; 7 where all are open
 unfoldable pub opening : List ℕ → ℕ → List ℕ → Left
-opening b j js = cond (eqb (lowest_free js) numbers) (left (Refused AllOpen) b) (left (Is (lowest_free js)) (book_of (set js (lowest_free js) j)))
+opening b j js = cond (eqb (lowest_free js) numbers) (left (Err AllOpen) b) (left (Ok (lowest_free js)) (book_of (set js (lowest_free js) j)))
 
 -- a job is 1 or more (document 01, "Sizes")
 unfoldable pub open_at : List ℕ → ℕ → Left
-open_at b j = cond (eqb j 0) (left (Refused Shape) b) (with_jobs b (opening b j))
+open_at b j = cond (eqb j 0) (left (Err Shape) b) (with_jobs b (opening b j))
 
 -- 8 where the number is not open, as none above 63 is
 unfoldable pub closing : List ℕ → ℕ → List ℕ → Left
-closing b n js = cond (eqb (get_or js n 0) 0) (left (Refused NotOpen) b) (left (Is 0) (book_of (set js n 0)))
+closing b n js = cond (eqb (get_or js n 0) 0) (left (Err NotOpen) b) (left (Ok 0) (book_of (set js n 0)))
 
 unfoldable pub close_at : List ℕ → ℕ → Left
 close_at b n = with_jobs b (closing b n)
 
-unfoldable pub count_at : List ℕ → Answer
-count_at b = cond (is_book b) (Is (open_count (jobs_in b))) (Refused Shape)
+unfoldable pub count_at : List ℕ → Result ℕ BookRefusal
+count_at b = cond (is_book b) (Ok (open_count (jobs_in b))) (Err Shape)
 
 -- 0 where the number is not open
 unfoldable pub job_at : List ℕ → ℕ → ℕ

@@ -1,10 +1,9 @@
 -- The history of a book: document 02, E2, "After any calls the book's open numbers, their jobs and the open count are those of the history
 -- of openings and closings since it was last emptied." The history is made of what the calls answered, and says by itself which numbers are
 -- open and for which jobs.
-use Rattle.std.specs.Prelude.{ℕ, zero, suc, ◌^◌, ◌<◌, ◌≡◌, Bool, false, cond, ◌||◌, List, [], ◌∷◌, eqb}
+use Rattle.std.specs.Prelude.{ℕ, zero, suc, ◌^◌, ◌<◌, ◌≡◌, Bool, false, cond, ◌||◌, List, [], ◌∷◌, eqb, Err, Ok, Result}
 use Rattle.book.specs.Books.{numbers, book_of, open_count, Left, empty_at, open_at, close_at, count_at, job_at}
-use Rattle.book.specs.declared.Answer.{Answer}
-use Rattle.book.specs.declared.Answer.TheVariants.{Is, Refused}
+use Rattle.book.specs.declared.BookRefusal.{BookRefusal}
 
 -- the calls that may change a book; a job has 64 bits
 pub data Call : Type 0 where
@@ -81,9 +80,9 @@ taken (opens j fits) n h = opened n j ∷ h
 taken (closes n) x h = closed n ∷ h
 
 -- refused calls are not in it
-abbrev pub noted : Call → Answer → History → History
-noted c (Is x) h = taken c x h
-noted c (Refused r) h = h
+abbrev pub noted : Call → Result ℕ BookRefusal → History → History
+noted c (Ok x) h = taken c x h
+noted c (Err r) h = h
 
 abbrev pub after : Kept → Call → Kept
 after k c = record { bytes = (called k.bytes c).bytes; history = noted c (called k.bytes c).answer k.history }
@@ -102,6 +101,6 @@ pub record Claims (k : Kept) : Type 0 where
   pub bytes : k.bytes ≡ book_of (jobs_of k.history)
   -- the calls that read say what the history says: of each number the job that it is open for, and how many are open
   pub jobs : (n : ℕ) → job_at k.bytes n ≡ job_of k.history n
-  pub count : count_at k.bytes ≡ Is (open_count (jobs_of k.history))
+  pub count : count_at k.bytes ≡ Ok (open_count (jobs_of k.history))
   -- each number was the lowest free one when it was given, and was open when it was closed
   pub orderly : Orderly k.history

@@ -15,10 +15,8 @@ pub(crate) fn eight_at(b: &[u8], at: usize) -> u64
     ensures { result ≡ eight_at b.now at }
 {
     let mut v: u64 = 0;
-    let mut i: usize = 0;
-    while i < 8 {
+    for i in 0..8 {
         v = v * 256 + wide(b[at + i]);
-        i += 1;
     }
     v
 }
@@ -28,10 +26,8 @@ pub(crate) fn put_eight(b: &mut [u8], at: usize, v: u64)
     requires { at + 8 ≤ length b.old }
     ensures { b.new ≡ sets b.old at (octets 8 v) }
 {
-    let mut i: usize = 0;
-    while i < 8 {
+    for i in 0..8 {
         b[at + i] = ((v >> (8 * (7 - i))) % 256) as u8;
-        i += 1;
     }
 }
 

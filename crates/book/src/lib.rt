@@ -1,7 +1,8 @@
 // The book of message identification numbers (document 02, E2): which of the numbers 0 to 63 are open in one direction of a dialogue, and
 // the job that each belongs to. The host keeps it in a lent range of a fixed size, beside the record of the dialogue, and the book does not
 // look at that.
-// Every function takes every argument; what it refuses changes nothing.
+// Every function takes every argument; what it refuses changes nothing. A call answers a message identification number or a count, 0 where there
+// is nothing to say; or why it is refused.
 #![tactic(auto)]
 
 ghost use Rattle.std.specs.Prelude.{◌≡◌};
@@ -38,11 +39,4 @@ impl BookRefusal {
             BookRefusal::NotOpen => 8,
         }
     }
-}
-
-// What a call answers: a message identification number or a count, 0 where there is nothing to say; or why it was refused.
-#[derive(Drop)]
-pub enum Answer {
-    Is(u64),
-    Refused(BookRefusal),
 }

@@ -2,23 +2,15 @@
 ghost use Rattle.std.specs.Prelude.{◌≡◌, length};
 ghost use Rattle.book.specs.Books.{book_bytes, jobs_in, load_at, marks};
 
+use crate::BookRefusal;
 use crate::eight::eight_at;
 use crate::numbers::mark;
 
-// A book, with its open numbers; or no book.
-#[derive(Drop)]
-pub(crate) enum Loaded {
-    Open(u64),
-    NoBook,
-}
+// The bytes of a book: the open numbers, and the jobs of 64 numbers, eight bytes each.
+pub(crate) const BYTES: usize = 520;
 
-impl Loaded {
-    // The bytes of a book: the open numbers, and the jobs of 64 numbers, eight bytes each.
-    pub(crate) const BYTES: usize = 520;
-
-    // How many numbers there are.
-    pub(crate) const NUMBERS: usize = 64;
-}
+// How many numbers there are.
+pub(crate) const NUMBERS: usize = 64;
 
 // The open numbers, by the jobs.
 fn marked(b: &[u8]) -> u64
@@ -26,7 +18,7 @@ fn marked(b: &[u8]) -> u64
     ensures { result ≡ marks (jobs_in b.now) }
 {
     let mut m: u64 = 0;
-    let mut i: usize = Loaded::NUMBERS;
+    let mut i: usize = NUMBERS;
     while 0 < i {
         m = 2 * m + mark(eight_at(b, 8 * i));
         i -= 1;
@@ -34,16 +26,16 @@ fn marked(b: &[u8]) -> u64
     m
 }
 
-// What the bytes say: the jobs decide which numbers are open, and the first eight bytes must agree.
-pub(crate) fn load(b: &[u8]) -> Loaded
+// The open numbers of a book. The jobs decide which are open, and the first eight bytes must agree.
+pub(crate) fn load(b: &[u8]) -> Result<u64, BookRefusal>
     ensures { result ≡ load_at b.now }
 {
-    if b.len() != Loaded::BYTES {
-        return Loaded::NoBook;
+    if b.len() != BYTES {
+        return Err(BookRefusal::Shape);
     }
     let opened = marked(b);
     if eight_at(b, 0) == opened {
-        return Loaded::Open(opened);
+        return Ok(opened);
     }
-    Loaded::NoBook
+    Err(BookRefusal::Shape)
 }

@@ -11,13 +11,13 @@ use Rattle.book.specs.Books.{number_of, octets}
 use Rattle.book.proofs.Eights.{length_octets, number_octets}
 use Rattle.envelope.specs.Envelopes.{most_bits, envelope_at, Left, left, content_of, placed, bytes_of, header, largest}
 use Rattle.envelope.specs.declared.Envelope.{Envelope}
-use Rattle.envelope.specs.declared.EnvelopeRead.TheVariants as read
-use Rattle.envelope.specs.declared.EnvelopeWritten.{EnvelopeWritten}
 use Rattle.envelope.proofs.Numbers.{AllBytes}
 use Rattle.envelope.proofs.RoundTrip.{ReadIs, read_written, length_whole}
 use Rattle.envelope.proofs.Sizes.{kind_small, bits_small, within_largest, largest_is}
 use Rattle.card.specs.Mail.{read_by, said, answered, written_answer}
 use Rattle.layout.specs.Calls.{sent}
+use Rattle.std.specs.Prelude.{Ok, Result}
+use Rattle.words.specs.declared.Unwritten.{Unwritten}
 
 -- bytes over a range of as many
 pub sets_whole : (b v : List ℕ) → length v ≡ length b → sets b 0 v ≡ v
@@ -26,7 +26,7 @@ sets_whole b v h =
     sets-eq v b 0 (omega arith) ∙ rw d (append-nil v)
 
 -- as `peat_write_envelope` has them
-pub put_answered : (n : ℕ) (w : EnvelopeWritten) (out : List ℕ) (x : Left) → n ≡ written_answer w → left w out ≡ x → sent n out ≡ answered x
+pub put_answered : (n : ℕ) (w : Result ℕ Unwritten) (out : List ℕ) (x : Left) → n ≡ written_answer w → left w out ≡ x → sent n out ≡ answered x
 put_answered n w out x p q = rw (p, ← q)
 
 -- the parts of an answer
@@ -42,7 +42,7 @@ parts e k b p n =
     record { none = omega arith; kind = omega arith; bits = omega arith; body = omega arith; next = omega arith }
 
 -- an envelope that is read is all in the number
-pub envelope_said : (s job : List ℕ) (e : Envelope) → AllBytes s → envelope_at most_bits s 0 ≡ read.Is e
+pub envelope_said : (s job : List ℕ) (e : Envelope) → AllBytes s → envelope_at most_bits s 0 ≡ Ok e
     → Says (read_by job (envelope_at most_bits s 0)).number e
 unfolding read_by placed
 envelope_said s job e b p =
@@ -57,7 +57,7 @@ envelope_said s job e b p =
     rw p (parts e (omega arith) (omega arith) (omega (arith, h, m, w, largest_is)) (omega (arith, n, m, largest_is)))
 
 -- and its job is in the eight bytes
-pub job_said : (s job : List ℕ) (e : Envelope) → AllBytes s → envelope_at most_bits s 0 ≡ read.Is e
+pub job_said : (s job : List ℕ) (e : Envelope) → AllBytes s → envelope_at most_bits s 0 ≡ Ok e
     → number_of 0 (read_by job (envelope_at most_bits s 0)).bytes ≡ e.job
 unfolding read_by
 job_said s job e b p =

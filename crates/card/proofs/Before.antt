@@ -20,18 +20,19 @@ use Rattle.machine.specs.Outcome.{is_none, refused}
 use Rattle.machine.specs.Calls.{start_request}
 use Rattle.machine.specs.declared.record.Record.{Record}
 use Rattle.machine.specs.declared.outcome.StepRefusal.{StepRefusal}
-use Rattle.machine.specs.declared.outcome.StepRefusal.TheVariants.{None, Shape, Prohibited}
+use Rattle.machine.specs.declared.outcome.StepRefusal.TheVariants.{Shape, Prohibited}
 use Rattle.machine.specs.declared.outcome.Outcome.{Outcome}
 use Rattle.step.specs.Call.{Called, called, carries_data, pdus_of, concluded, entering}
 use Rattle.card.specs.Face.{given_data}
+use Rattle.std.specs.Prelude.{None, Option, Some}
 
 -- the codes, class and security, the same at both sides (machine, user_fits)
 abbrev pub codes_before : ℕ → ℕ → Bool
 codes_before k s = ltb k routing_classes && ltb s security_values
 
 -- SHAPE, then PROHIBITED (machine, refusal_of)
-abbrev pub refusal_before : Side → Record → Bool → ℕ → ℕ → StepRefusal
-refusal_before sd x m k s = cond (not (codes_before k s)) Shape (cond (not (takes sd x.control (StartRequest m))) Prohibited None)
+abbrev pub refusal_before : Side → Record → Bool → ℕ → ℕ → Option StepRefusal
+refusal_before sd x m k s = cond (not (codes_before k s)) (Some Shape) (cond (not (takes sd x.control (StartRequest m))) (Some Prohibited) None)
 
 -- (machine, step)
 abbrev pub step_before : Side → Record → Bool → ℕ → ℕ → Outcome

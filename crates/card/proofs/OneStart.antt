@@ -28,17 +28,17 @@ use Rattle.machine.specs.declared.record.Record.{Record}
 use Rattle.machine.specs.declared.event.UserPrimitive.TheVariants.{StartServiceRequest}
 use Rattle.machine.specs.declared.event.Event.{Event}
 use Rattle.machine.specs.declared.event.Event.TheVariants.{User}
-use Rattle.machine.specs.declared.outcome.StepRefusal.TheVariants.{None, Shape, Prohibited}
+use Rattle.machine.specs.declared.outcome.StepRefusal.TheVariants.{Shape, Prohibited}
 use Rattle.machine.specs.declared.outcome.Outcome.{Outcome}
 use Rattle.numbered.specs.Numbers.{user_starts, is_start, is_stale, held_after, numbered_step}
 use Rattle.numbered.proofs.Laws.{shape_first, then_step}
-use Rattle.stored.specs.Stored.{load_at}
+use Rattle.stored.specs.Stored.{load_at, is_stored}
 use Rattle.step.specs.Call.{Called, called, carries_data, pdus_of, concluded, with_record, entering, user_step, user_by}
-use Rattle.stored.specs.declared.Loaded.{Loaded}
-use Rattle.stored.specs.declared.Loaded.TheVariants.{Is, NoRecord}
 use Rattle.step.proofs.Taken.{never}
 use Rattle.card.specs.Face.{given_data, numbered_call}
 use Rattle.card.proofs.Before.{codes_before, step_before, user_step_before, cpdlc_start_before, dsc_start_before}
+use Rattle.std.specs.Prelude.{None, Some, Option}
+use Rattle.stored.specs.declared.Stored.{Stored}
 
 -- ---- the step of either machine
 
@@ -52,11 +52,11 @@ unfolding step refusal_of event_fits user_fits has_mode permitted call_of messag
 dsc_step x k s = refl
 
 -- the old DSC-start request had no action at the ground machine
-ground_step : (x : Record) (k s : ℕ) → step_before Ground x true k s ≡ refused (cond (codes_before k s) Prohibited Shape) x
+ground_step : (x : Record) (k s : ℕ) → step_before Ground x true k s ≡ refused (cond (codes_before k s) (Some Prohibited) (Some Shape)) x
 ground_step x k s = go (codes_before k s) (is_idle x.control)
   where
     go : (t i : Bool)
-        → cond (is_none (cond (not t) Shape (cond (not (i && false)) Prohibited None))) (clause.start_request x true k s) (refused (cond (not t) Shape (cond (not (i && false)) Prohibited None)) x) ≡ refused (cond t Prohibited Shape) x
+        → cond (is_none (cond (not t) (Some Shape) (cond (not (i && false)) (Some Prohibited) None))) (clause.start_request x true k s) (refused (cond (not t) (Some Shape) (cond (not (i && false)) (Some Prohibited) None)) x) ≡ refused (cond t (Some Prohibited) (Some Shape)) x
     go true true = refl
     go true false = refl
     go false i = refl
@@ -65,49 +65,52 @@ ground_step x k s = go (codes_before k s) (is_idle x.control)
 
 -- the record that the bytes say, if they say one, decides
 entering_same : (r a b : List ℕ) (k l : Side → Record → ℕ → Called)
-    → ((sd : Side) (x : Record) (n : ℕ) → load_at r ≡ Is sd x n → k sd x n ≡ l sd x n)
+    → ((sd : Side) (x : Record) (n : ℕ) → load_at r ≡ is_stored sd x n → k sd x n ≡ l sd x n)
     → entering r a b k ≡ entering r a b l
 unfolding entering with_record
 entering_same r a b k l h =
     ap (λ (z : Called). cond (ltb (length a) buffer_least) (called room r a b)
     (cond (ltb (length b) buffer_least) (called room r a b) z)) (same (load_at r) refl)
   where
-    same : (v : Loaded) → load_at r ≡ v → with_record r a b v k ≡ with_record r a b v l
-    same (Is sd x n) e = h sd x n e
-    same NoRecord e = refl
+    same : (v : Option Stored) → load_at r ≡ v → with_record r a b v k ≡ with_record r a b v l
+    same (Some z) e = h z.side z.machine z.number e
+    same None e = refl
 
 -- the bytes are those of a ground machine's record
-abbrev ground_in : Loaded → Bool
-ground_in (Is Air x n) = false
-ground_in (Is Ground x n) = true
-ground_in NoRecord = false
+abbrev is_ground : Side → Bool
+is_ground Air = false
+is_ground Ground = true
+
+abbrev ground_in : Option Stored → Bool
+ground_in (Some z) = is_ground z.side
+ground_in None = false
 
 abbrev pub at_ground : List ℕ → Bool
 at_ground r = ground_in (load_at r)
 
 -- the number is above the one that the record holds, if the bytes are a record
-abbrev below_in : Loaded → ℕ → Bool
-below_in (Is sd x n) v = ltb n v
-below_in NoRecord v = true
+abbrev below_in : Option Stored → ℕ → Bool
+below_in (Some z) v = ltb z.number v
+below_in None v = true
 
 abbrev pub is_above : List ℕ → ℕ → Bool
 is_above r v = below_in (load_at r) v
 
 -- 2 where a call answered 3; the rest is the same
 abbrev pub shape_for_prohibited : Called → Called
-shape_for_prohibited x = called (cond (eqb x.number (refusal_number Prohibited)) shape x.number) x.kept x.first x.second
+shape_for_prohibited x = called (cond (eqb x.number (refusal_number (Some Prohibited))) shape x.number) x.kept x.first x.second
 
 shape_entering : (r a b : List ℕ) (k : Side → Record → ℕ → Called)
     → shape_for_prohibited (entering r a b k) ≡ entering r a b (λ (sd : Side) (x : Record) (n : ℕ). shape_for_prohibited (k sd x n))
 unfolding entering with_record
 shape_entering r a b k = go (ltb (length a) buffer_least) (ltb (length b) buffer_least) (load_at r)
   where
-    go : (f g : Bool) (v : Loaded)
+    go : (f g : Bool) (v : Option Stored)
         → shape_for_prohibited (cond f (called room r a b) (cond g (called room r a b) (with_record r a b v k))) ≡ cond f (called room r a b) (cond g (called room r a b) (with_record r a b v (λ (sd : Side) (x : Record) (n : ℕ). shape_for_prohibited (k sd x n))))
     go true g v = refl
     go false true v = refl
-    go false false (Is sd x n) = refl
-    go false false NoRecord = refl
+    go false false (Some z) = refl
+    go false false None = refl
 
 -- ROOM, or else SHAPE, whatever the record is
 abbrev pub room_or_shape : List ℕ → List ℕ → List ℕ → Called
@@ -120,9 +123,9 @@ entering_shape r a b =
     ap (λ (z : Called). cond (ltb (length a) buffer_least) (called room r a b)
     (cond (ltb (length b) buffer_least) (called room r a b) z)) (either (load_at r))
   where
-    either : (v : Loaded) → with_record r a b v (λ (sd : Side) (x : Record) (n : ℕ). called shape r a b) ≡ called shape r a b
-    either (Is sd x n) = refl
-    either NoRecord = refl
+    either : (v : Option Stored) → with_record r a b v (λ (sd : Side) (x : Record) (n : ℕ). called shape r a b) ≡ called shape r a b
+    either (Some z) = refl
+    either None = refl
 
 -- ---- the exported call. v: the dialogue number that the start brings
 
@@ -158,8 +161,8 @@ module _ (r a b : List ℕ) (v k s : ℕ) (ids msgs : List ℕ) (n : ℕ) (check
   unfolding is_stale is_start user_starts
   above_step m sd x h u = then_step sd x h (start m) v (rw u)
 
-  above_at : (sd : Side) (x : Record) (h : ℕ) → is_above r v ≡ true → load_at r ≡ Is sd x h → ltb h v ≡ true
-  above_at sd x h u e = sym (ap (λ (z : Loaded). below_in z v) e) ∙ u
+  above_at : (sd : Side) (x : Record) (h : ℕ) → is_above r v ≡ true → load_at r ≡ is_stored sd x h → ltb h v ≡ true
+  above_at sd x h u e = sym (ap (λ (z : Option Stored). below_in z v) e) ∙ u
 
   -- mode cpdlc, at both machines
   pub cpdlc_as_before : is_above r v ≡ true
@@ -174,13 +177,13 @@ module _ (r a b : List ℕ) (v k s : ℕ) (ids msgs : List ℕ) (n : ℕ) (check
   unfolding user_by
   dsc_as_before u g = entering_same r a b (now_step dsc_mode) (old_step true) same
     where
-      same : (sd : Side) (x : Record) (h : ℕ) → load_at r ≡ Is sd x h → now_step dsc_mode sd x h ≡ old_step true sd x h
+      same : (sd : Side) (x : Record) (h : ℕ) → load_at r ≡ is_stored sd x h → now_step dsc_mode sd x h ≡ old_step true sd x h
       same Air x h e = now_is dsc_mode Air x h ∙ ap (with_data Air x) (above_step dsc_mode Air x h (above_at Air x h u e) ∙ dsc_step x k s)
       same Ground x h e = never (sym g ∙ ap ground_in e)
 
   -- a mode that the machine has not is SHAPE, before STALE
   shape_at : (m : ℕ) (sd : Side) (x : Record) (h : ℕ) → event_fits sd x.edition (start m) ≡ false
-      → now_step m sd x h ≡ with_data sd x (refused Shape x)
+      → now_step m sd x h ≡ with_data sd x (refused (Some Shape) x)
   shape_at m sd x h e = now_is m sd x h ∙ ap (with_data sd x) (shape_first sd x h (start m) v e)
 
   ground_shape : (x : Record) → event_fits Ground x.edition (start dsc_mode) ≡ false
@@ -200,12 +203,12 @@ module _ (r a b : List ℕ) (v k s : ℕ) (ids msgs : List ℕ) (n : ℕ) (check
       (shape_entering r a b (old_step true))
     where
       refuses : (d t : Bool) (x : Record)
-          → cond d (concluded r a b x.edition Ground v (refused Shape x) (lent ids) (lent msgs) (lent checks) (carries_data given)) (called shape r a b) ≡ shape_for_prohibited (cond d (concluded r a b x.edition Ground v (refused (cond t Prohibited Shape) x) (lent ids) (lent msgs) (lent checks) (carries_data given)) (called shape r a b))
+          → cond d (concluded r a b x.edition Ground v (refused (Some Shape) x) (lent ids) (lent msgs) (lent checks) (carries_data given)) (called shape r a b) ≡ shape_for_prohibited (cond d (concluded r a b x.edition Ground v (refused (cond t (Some Prohibited) (Some Shape)) x) (lent ids) (lent msgs) (lent checks) (carries_data given)) (called shape r a b))
       refuses true true x = refl
       refuses true false x = refl
       refuses false t x = refl
 
-      moved : (sd : Side) (x : Record) (h : ℕ) → load_at r ≡ Is sd x h → now_step dsc_mode sd x h ≡ shape_for_prohibited (old_step true sd x h)
+      moved : (sd : Side) (x : Record) (h : ℕ) → load_at r ≡ is_stored sd x h → now_step dsc_mode sd x h ≡ shape_for_prohibited (old_step true sd x h)
       moved Air x h e = never (sym (ap ground_in e) ∙ g)
       moved Ground x h e =
           shape_at dsc_mode Ground x h (ground_shape x) ∙ refuses (placed_fits Ground x) (codes_before k s) x ∙ ap
@@ -219,11 +222,11 @@ module _ (r a b : List ℕ) (v k s : ℕ) (ids msgs : List ℕ) (n : ℕ) (check
       (λ (sd : Side) (x : Record) (h : ℕ). called shape r a b) refuses ∙ entering_shape r a b
     where
       either : (d : Bool) (x : Record)
-          → cond d (concluded r a b x.edition Ground v (refused Shape x) (lent ids) (lent msgs) (lent checks) (carries_data given)) (called shape r a b) ≡ called shape r a b
+          → cond d (concluded r a b x.edition Ground v (refused (Some Shape) x) (lent ids) (lent msgs) (lent checks) (carries_data given)) (called shape r a b) ≡ called shape r a b
       either true x = refl
       either false x = refl
 
-      refuses : (sd : Side) (x : Record) (h : ℕ) → load_at r ≡ Is sd x h → now_step dsc_mode sd x h ≡ called shape r a b
+      refuses : (sd : Side) (x : Record) (h : ℕ) → load_at r ≡ is_stored sd x h → now_step dsc_mode sd x h ≡ called shape r a b
       refuses Air x h e = never (sym (ap ground_in e) ∙ g)
       refuses Ground x h e = shape_at dsc_mode Ground x h (ground_shape x) ∙ either (placed_fits Ground x) x
 
@@ -234,6 +237,6 @@ module _ (r a b : List ℕ) (v k s : ℕ) (ids msgs : List ℕ) (n : ℕ) (check
       (λ sd x h e. shape_at m sd x h (mode_shape sd x m l) ∙ either sd (placed_fits sd x) x) ∙ entering_shape r a b
     where
       either : (sd : Side) (d : Bool) (x : Record)
-          → cond d (concluded r a b x.edition sd v (refused Shape x) (lent ids) (lent msgs) (lent checks) (carries_data given)) (called shape r a b) ≡ called shape r a b
+          → cond d (concluded r a b x.edition sd v (refused (Some Shape) x) (lent ids) (lent msgs) (lent checks) (carries_data given)) (called shape r a b) ≡ called shape r a b
       either sd true x = refl
       either sd false x = refl

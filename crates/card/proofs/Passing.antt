@@ -25,13 +25,12 @@ use Rattle.editions.specs.declared.Edition.TheVariants.{Plain, Protected}
 use Rattle.apdu.specs.Writing.{done, write_out, run_fits}
 use Rattle.apdu.specs.declared.Heading.{Heading}
 use Rattle.apdu.specs.declared.Forward.{Forward}
-use Rattle.apdu.specs.declared.Forwarded.{Forwarded}
-use Rattle.apdu.specs.declared.Forwarded.TheVariants as forwarded
-use Rattle.apdu.specs.declared.Written.{Written}
-use Rattle.apdu.specs.declared.Written.TheVariants as written
 use Rattle.layout.specs.Calls.{sent}
 use Rattle.card.specs.Forwarding.{message_part, plain_parts, edition_in, part_in, heading_part, told, message_answer, message_out, forward_part, forward_chosen, forward_part_call, heading_numbers, heading_bytes, opened, heading_by, forward_parts, forward_opened, read_forward}
 use Rattle.card.proofs.Answered.{sets_whole}
+use Rattle.std.specs.Prelude.{Err, Ok, Result}
+use Rattle.fields.specs.Fields.{Reading}
+use Rattle.words.specs.declared.Unwritten.{Unwritten}
 
 pub last_part : (w : ℕ) (h : Heading) → (w ≡ 0 → ⊥) → (w ≡ 1 → ⊥) → (w ≡ 2 → ⊥) → (w ≡ 3 → ⊥) → (w ≡ 4 → ⊥)
     → (w ≡ 5 → ⊥) → (w ≡ 6 → ⊥) → (w ≡ 7 → ⊥) → (w ≡ 8 → ⊥) → h.direction ≡ heading_part w h
@@ -46,7 +45,7 @@ last_part (suc (suc (suc (suc (suc (suc (suc zero))))))) h a b c d e f g i j = a
 last_part (suc (suc (suc (suc (suc (suc (suc (suc zero)))))))) h a b c d e f g i j = absurd (j refl)
 last_part (suc (suc (suc (suc (suc (suc (suc (suc (suc n))))))))) h a b c d e f g i j = refl
 
-pub bits_out : (out z s : List ℕ) (which n : ℕ) (f : Forward) (w : Written) → which ≡ message_part → n ≡ message_answer w
+pub bits_out : (out z s : List ℕ) (which n : ℕ) (f : Forward) (w : Result ℕ Unwritten) → which ≡ message_part → n ≡ message_answer w
     → done w z ≡ write_out (run_fits s f.message.at f.message.count) out (run s f.message.at f.message.count)
     → sent n z ≡ forward_part out s which f
 unfolding forward_part
@@ -66,22 +65,22 @@ pub no_part : (out s : List ℕ) (which i : ℕ) → buffer_least ≤ length out
 unfolding forward_part_call
 no_part out s which i h p g = rw (le-ltb (length out) buffer_least h, ← p, lt-ltb message_part i g)
 
-pub not_forward : (out s : List ℕ) (which i n : ℕ) (ed : Edition) (t : Forwarded) (r : Refusal)
+pub not_forward : (out s : List ℕ) (which i n : ℕ) (ed : Edition) (t : Reading Forward) (r : Refusal)
     → buffer_least ≤ length out → i ≡ part_in which → i ≤ message_part → ed ≡ edition_in which
-    → t ≡ whole_forward ed (lent s) → t ≡ forwarded.Refused r → n ≡ packed r → sent n out ≡ forward_part_call out which s
+    → t ≡ whole_forward ed (lent s) → t ≡ Err r → n ≡ packed r → sent n out ≡ forward_part_call out which s
 unfolding forward_part_call forward_chosen
 not_forward out s which i n ed t r h p g d k q e =
-    let w : whole_forward (edition_in which) (lent s) ≡ forwarded.Refused r = ap
+    let w : whole_forward (edition_in which) (lent s) ≡ Err r = ap
     (λ (x : Edition). whole_forward x (lent s)) (sym d) ∙ sym k ∙ q in
     rw (le-ltb (length out) buffer_least h, ← p, le-ltb message_part i g, w, e)
 
-pub part_out : (out z s : List ℕ) (which i n next : ℕ) (ed : Edition) (t : Forwarded) (f : Forward)
+pub part_out : (out z s : List ℕ) (which i n next : ℕ) (ed : Edition) (t : Reading Forward) (f : Forward)
     → buffer_least ≤ length out → i ≡ part_in which → i ≤ message_part → ed ≡ edition_in which
-    → t ≡ whole_forward ed (lent s) → t ≡ forwarded.Is f next → sent n z ≡ forward_part out s i f
+    → t ≡ whole_forward ed (lent s) → t ≡ Ok (f, next) → sent n z ≡ forward_part out s i f
     → sent n z ≡ forward_part_call out which s
 unfolding forward_part_call forward_chosen
 part_out out z s which i n next ed t f h p g d e q k =
-    let w : whole_forward (edition_in which) (lent s) ≡ forwarded.Is f next = ap
+    let w : whole_forward (edition_in which) (lent s) ≡ Ok (f, next) = ap
     (λ (x : Edition). whole_forward x (lent s)) (sym d) ∙ sym e ∙ q in
     k ∙ rw (le-ltb (length out) buffer_least h, ← p, le-ltb message_part i g, w)
 
@@ -144,7 +143,7 @@ numbers_length b d at v e h = ap length e ∙ length-sets b at (octets 8 v) ∙ 
 pub numbers_done : (b : List ℕ) (i : ℕ) (h : Heading) → i ≡ 10 → sets b (8 * i) (eights (drop i (heading_numbers h))) ≡ b
 numbers_done b i h e = rw (e, eights_nil)
 
-pub parts_out : (b d out z s : List ℕ) (n : ℕ) (f : Forward) (w : Written) → done w z ≡ message_out out s f.message
+pub parts_out : (b d out z s : List ℕ) (n : ℕ) (f : Forward) (w : Result ℕ Unwritten) → done w z ≡ message_out out s f.message
     → d ≡ heading_by b f.heading w → n ≡ message_answer w → opened n d z ≡ forward_parts b out s f
 unfolding forward_parts
 parts_out b d out z s n f w e p q = rw (← e, p, q)
@@ -166,34 +165,34 @@ module _ (b out s : List ℕ) (application : ℕ) (y : Bool) (h : buffer_least �
   unfolding read_forward
   no_heading j g = rw (le-ltb (length out) buffer_least h, typed j, ne_eqb (length b) heading_bytes g)
 
-  pub no_parts : (n : ℕ) (ed : Edition) (t : Forwarded) (r : Refusal) → not y ≡ false → length b ≡ heading_bytes
-      → ed ≡ edition_of application → t ≡ whole_forward ed (lent s) → t ≡ forwarded.Refused r → n ≡ packed r
+  pub no_parts : (n : ℕ) (ed : Edition) (t : Reading Forward) (r : Refusal) → not y ≡ false → length b ≡ heading_bytes
+      → ed ≡ edition_of application → t ≡ whole_forward ed (lent s) → t ≡ Err r → n ≡ packed r
       → opened n b out ≡ read_forward b out s application
   unfolding read_forward forward_opened
   no_parts n ed t r j g d p q e =
-      let w : whole_forward (edition_of application) (lent s) ≡ forwarded.Refused r = ap
+      let w : whole_forward (edition_of application) (lent s) ≡ Err r = ap
       (λ (x : Edition). whole_forward x (lent s)) (sym d) ∙ sym p ∙ q in
       rw (le-ltb (length out) buffer_least h, typed j, eq-eqb (length b) heading_bytes g, w, e)
 
-  pub all_parts : (a z : List ℕ) (n next : ℕ) (ed : Edition) (t : Forwarded) (f : Forward) → not y ≡ false
-      → length b ≡ heading_bytes → ed ≡ edition_of application → t ≡ whole_forward ed (lent s) → t ≡ forwarded.Is f next
+  pub all_parts : (a z : List ℕ) (n next : ℕ) (ed : Edition) (t : Reading Forward) (f : Forward) → not y ≡ false
+      → length b ≡ heading_bytes → ed ≡ edition_of application → t ≡ whole_forward ed (lent s) → t ≡ Ok (f, next)
       → opened n a z ≡ forward_parts b out s f → opened n a z ≡ read_forward b out s application
   unfolding read_forward forward_opened
   all_parts a z n next ed t f j g d e q k =
-      let w : whole_forward (edition_of application) (lent s) ≡ forwarded.Is f next = ap
+      let w : whole_forward (edition_of application) (lent s) ≡ Ok (f, next) = ap
       (λ (x : Edition). whole_forward x (lent s)) (sym d) ∙ sym e ∙ q in
       k ∙ rw (le-ltb (length out) buffer_least h, typed j, eq-eqb (length b) heading_bytes g, w)
 
 -- ---- what all parts at once say is what each of them says by itself
 
 -- the message's bits, and every refusal
-message_by : (b out s : List ℕ) (t : Forwarded)
+message_by : (b out s : List ℕ) (t : Reading Forward)
     → sent (forward_opened b out s t).number (forward_opened b out s t).bytes ≡ forward_chosen out s message_part t
 unfolding forward_opened forward_chosen forward_parts forward_part
-message_by b out s (forwarded.Is f next) = refl
-message_by b out s (forwarded.Refused r) = refl
+message_by b out s (Ok (f, next)) = refl
+message_by b out s (Err r) = refl
 
-message_if : (b out s : List ℕ) (t : Forwarded) (x : Bool)
+message_if : (b out s : List ℕ) (t : Reading Forward) (x : Bool)
     → sent (cond x (opened 1 b out) (forward_opened b out s t)).number (cond x (opened 1 b out) (forward_opened b out s t)).bytes ≡ cond x (sent 1 out) (forward_chosen out s message_part t)
 message_if b out s t true = refl
 message_if b out s t false = message_by b out s t
@@ -223,8 +222,8 @@ eight_at_is (v ∷ vs) (suc i) h =
 
 number_by : (b out s : List ℕ) (application which i n next : ℕ) (ed : Edition) (f : Forward) → is_type application ≡ true
     → edition_of application ≡ ed → part_in which ≡ i → edition_in which ≡ ed → length b ≡ heading_bytes
-    → buffer_least ≤ length out → whole_forward ed (lent s) ≡ forwarded.Is f next
-    → (message_out out s f.message).answer ≡ written.Bits n → i < message_part
+    → buffer_least ≤ length out → whole_forward ed (lent s) ≡ Ok (f, next)
+    → (message_out out s f.message).answer ≡ Ok n → i < message_part
     → told (eight_at (read_forward b out s application).heading (8 * i)) ≡ (forward_part_call out which s).number
 unfolding read_forward forward_opened forward_parts heading_by forward_part_call forward_chosen forward_part
 number_by b out s application which i n next ed f y a p d h g e w k =
@@ -232,14 +231,14 @@ number_by b out s application which i n next ed f y a p d h g e w k =
     let u : ltb message_part i ≡ false = le-ltb message_part i (omega arith) in
     let v : eight_at (eights (heading_numbers f.heading)) (8 * i) ≡ heading_part i f.heading % 2 ^ 64 = eight_at_is
     (heading_numbers f.heading) i k ∙ ap (λ (x : ℕ). x % 2 ^ 64) (part_at i f.heading k) in
-    let l : whole_forward (edition_of application) (lent s) ≡ forwarded.Is f next = ap (λ (x : Edition). whole_forward x (lent s)) a ∙ e in
-    let m : whole_forward (edition_in which) (lent s) ≡ forwarded.Is f next = ap (λ (x : Edition). whole_forward x (lent s)) d ∙ e in
+    let l : whole_forward (edition_of application) (lent s) ≡ Ok (f, next) = ap (λ (x : Edition). whole_forward x (lent s)) a ∙ e in
+    let m : whole_forward (edition_in which) (lent s) ≡ Ok (f, next) = ap (λ (x : Edition). whole_forward x (lent s)) d ∙ e in
     rw (eq-eqb (length b) heading_bytes h, le-ltb (length out) buffer_least g, y, l, p, u, m, w, o, v)
     (ap (λ (x : ℕ). 256 * x) (mod-mod-pow (heading_part i f.heading) 8 56))
 
 pub number_at_once : (b out s : List ℕ) (ed : Edition) (i n next : ℕ) (f : Forward) → length b ≡ heading_bytes
-    → buffer_least ≤ length out → whole_forward ed (lent s) ≡ forwarded.Is f next
-    → (message_out out s f.message).answer ≡ written.Bits n → i < message_part
+    → buffer_least ≤ length out → whole_forward ed (lent s) ≡ Ok (f, next)
+    → (message_out out s f.message).answer ≡ Ok n → i < message_part
     → told (eight_at (read_forward b out s (type_of ed)).heading (8 * i)) ≡ (forward_part_call out (numbered_part ed i) s).number
 number_at_once b out s Protected i n next f h g e w k =
     let l : ltb i plain_parts ≡ true = lt-ltb i plain_parts (omega arith) in

@@ -1,9 +1,7 @@
 -- What the host gives to a call, and a fresh record.
-use Rattle.std.specs.Prelude.{ℕ, Bool, true, false, not, cond, List, [], ltb, eqb, length}
+use Rattle.std.specs.Prelude.{ℕ, Bool, true, false, not, cond, List, [], ltb, eqb, length, None, Option, Some}
 use Rattle.words.specs.Limits.{shape}
 use Rattle.pdus.specs.declared.Span.{Span}
-use Rattle.apdu.specs.declared.Part.{Part}
-use Rattle.apdu.specs.declared.Part.TheVariants as part
 use Rattle.apdu.specs.declared.Data.{Data}
 use Rattle.editions.specs.Editions.{is_type, edition_of}
 use Rattle.machine.specs.Record.{fresh_record}
@@ -29,8 +27,8 @@ abbrev pub no_count : ℕ
 no_count = 18446744073709551615
 
 -- message data from the first bits of three ranges: an identifier of no octets is absent, and a message whose count says none
-unfoldable pub part_of : Bool → ℕ → Part
-part_of none n = cond none part.Absent (part.Given (record { at = 0; count = n }))
+unfoldable pub part_of : Bool → ℕ → Option Span
+part_of none n = cond none None (Some (record { at = 0; count = n }))
 
 unfoldable pub given_data : ℕ → ℕ → ℕ → Data
 given_data octets m k = record { identifier = part_of (eqb octets 0) octets; message = part_of (eqb m no_count) m; check = record { at = 0; count = k } }

@@ -7,8 +7,8 @@
 --   56 bits  the part; of the message's bits, which stand in the buffer from the first on, their count
 -- All parts at once: the ten numbers into a lent range, eight bytes each, the most significant first; and the message's bits into the
 -- buffer. The number that is answered is that of the message's bits.
-use Rattle.std.specs.Prelude.{ℕ, zero, suc, ◌-◌, ◌*◌, ◌%◌, cond, not, List, [], ◌∷◌, eqb, ltb, length}
-use Rattle.words.specs.Limits.{room, shape}
+use Rattle.std.specs.Prelude.{ℕ, zero, suc, ◌-◌, ◌*◌, ◌%◌, cond, not, List, [], ◌∷◌, eqb, ltb, length, Err, Ok, Result}
+use Rattle.words.specs.Limits.{room, shape, unwritten_number}
 use Rattle.bits.specs.Bits.{run}
 use Rattle.book.specs.Books.{eights}
 use Rattle.fields.specs.Refusals.{packed}
@@ -22,11 +22,9 @@ use Rattle.apdu.specs.Writing.{Done, write_out, run_fits}
 use Rattle.pdus.specs.declared.Span.{Span}
 use Rattle.apdu.specs.declared.Heading.{Heading}
 use Rattle.apdu.specs.declared.Forward.{Forward}
-use Rattle.apdu.specs.declared.Forwarded.{Forwarded}
-use Rattle.apdu.specs.declared.Forwarded.TheVariants as forwarded
-use Rattle.apdu.specs.declared.Written.{Written}
-use Rattle.apdu.specs.declared.Written.TheVariants as written
 use Rattle.layout.specs.Calls.{Sent, sent}
+use Rattle.fields.specs.Fields.{Reading}
+use Rattle.words.specs.declared.Unwritten.{Unwritten}
 
 -- the message's bits
 abbrev pub message_part : ℕ
@@ -58,10 +56,9 @@ heading_part (suc (suc (suc (suc (suc (suc (suc (suc (suc n))))))))) h = h.direc
 abbrev pub told : ℕ → ℕ
 told n = 256 * (n % 72057594037927936)
 
-unfoldable pub message_answer : Written → ℕ
-message_answer (written.Bits n) = told n
-message_answer written.Room = room
-message_answer written.Shape = shape
+unfoldable pub message_answer : Result ℕ Unwritten → ℕ
+message_answer (Ok n) = told n
+message_answer (Err x) = unwritten_number x
 
 abbrev pub message_done : Done → Sent
 message_done x = sent (message_answer x.answer) x.bytes
@@ -74,9 +71,9 @@ unfoldable pub forward_part : List ℕ → List ℕ → ℕ → Forward → Sent
 forward_part out s which f =
     cond (eqb which message_part) (message_done (message_out out s f.message)) (sent (told (heading_part which f.heading)) out)
 
-unfoldable pub forward_chosen : List ℕ → List ℕ → ℕ → Forwarded → Sent
-forward_chosen out s which (forwarded.Is f next) = forward_part out s which f
-forward_chosen out s which (forwarded.Refused r) = sent (packed r) out
+unfoldable pub forward_chosen : List ℕ → List ℕ → ℕ → Reading Forward → Sent
+forward_chosen out s which (Ok (f, next)) = forward_part out s which f
+forward_chosen out s which (Err r) = sent (packed r) out
 
 -- ROOM, then SHAPE of the number that chooses, then the refusals of a forward message
 unfoldable pub forward_part_call : List ℕ → ℕ → List ℕ → Sent
@@ -105,10 +102,9 @@ abbrev pub opened : ℕ → List ℕ → List ℕ → Opened
 opened n h b = record { number = n; heading = h; bytes = b }
 
 -- the numbers, where the message's bits stand in the buffer
-unfoldable pub heading_by : List ℕ → Heading → Written → List ℕ
-heading_by b h (written.Bits n) = eights (heading_numbers h)
-heading_by b h written.Room = b
-heading_by b h written.Shape = b
+unfoldable pub heading_by : List ℕ → Heading → Result ℕ Unwritten → List ℕ
+heading_by b h (Ok n) = eights (heading_numbers h)
+heading_by b h (Err x) = b
 
 abbrev pub opened_by : List ℕ → Heading → Done → Opened
 opened_by b h x = opened (message_answer x.answer) (heading_by b h x.answer) x.bytes
@@ -116,9 +112,9 @@ opened_by b h x = opened (message_answer x.answer) (heading_by b h x.answer) x.b
 unfoldable pub forward_parts : List ℕ → List ℕ → List ℕ → Forward → Opened
 forward_parts b out s f = opened_by b f.heading (message_out out s f.message)
 
-unfoldable pub forward_opened : List ℕ → List ℕ → List ℕ → Forwarded → Opened
-forward_opened b out s (forwarded.Is f next) = forward_parts b out s f
-forward_opened b out s (forwarded.Refused r) = opened (packed r) b out
+unfoldable pub forward_opened : List ℕ → List ℕ → List ℕ → Reading Forward → Opened
+forward_opened b out s (Ok (f, next)) = forward_parts b out s f
+forward_opened b out s (Err r) = opened (packed r) b out
 
 -- ROOM, then SHAPE of the type and of a range for the heading of another size, then the refusals of a forward message
 unfoldable pub read_forward : List ℕ → List ℕ → List ℕ → ℕ → Opened

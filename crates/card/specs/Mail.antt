@@ -8,33 +8,30 @@
 --   16 bits  the bytes before the next envelope
 -- A job has 64 bits, so it does not go into that number: it goes into a lent range of eight bytes, the most significant first.
 -- The number that writing answers. A refusal is its number. Else 8 bits 0, and 16 bits the bytes that the envelope takes.
-use Rattle.std.specs.Prelude.{ℕ, ◌+◌, ◌*◌, ◌%◌, cond, List, eqb, length}
-use Rattle.words.specs.Limits.{room, shape}
+use Rattle.std.specs.Prelude.{ℕ, ◌+◌, ◌*◌, ◌%◌, cond, List, eqb, length, Err, Ok, Result}
+use Rattle.words.specs.Limits.{shape, unwritten_number}
 use Rattle.book.specs.Books.{octets}
 use Rattle.layout.specs.Calls.{Sent, sent}
 use Rattle.envelope.specs.Envelopes.{refusal_number, least_room, most_bits, envelope_at, write_envelope, Left}
 use Rattle.envelope.specs.declared.Envelope.{Envelope}
-use Rattle.envelope.specs.declared.EnvelopeRead.{EnvelopeRead}
-use Rattle.envelope.specs.declared.EnvelopeRead.TheVariants as read
-use Rattle.envelope.specs.declared.EnvelopeWritten.{EnvelopeWritten}
-use Rattle.envelope.specs.declared.EnvelopeWritten.TheVariants.{Bytes, Room, Shape}
+use Rattle.envelope.specs.declared.EnvelopeRefusal.{EnvelopeRefusal}
+use Rattle.words.specs.declared.Unwritten.{Unwritten}
 
 abbrev pub said : Envelope → ℕ
 said e = 256 * (e.kind % 256 + 256 * (e.bits % 65536 + 65536 * (e.body % 65536 + 65536 * (e.next % 65536))))
 
-unfoldable pub written_answer : EnvelopeWritten → ℕ
-written_answer (Bytes n) = 256 * (n % 65536)
-written_answer Room = room
-written_answer Shape = shape
+unfoldable pub written_answer : Result ℕ Unwritten → ℕ
+written_answer (Ok n) = 256 * (n % 65536)
+written_answer (Err x) = unwritten_number x
 
 -- the bytes that take a job
 abbrev pub job_bytes : ℕ
 job_bytes = 8
 
 -- what was read: its number and its job; a refusal leaves the range for the job as it was
-unfoldable pub read_by : List ℕ → EnvelopeRead → Sent
-read_by job (read.Is e) = sent (said e) (octets job_bytes e.job)
-read_by job (read.Refused r) = sent (refusal_number r) job
+unfoldable pub read_by : List ℕ → Result Envelope EnvelopeRefusal → Sent
+read_by job (Ok e) = sent (said e) (octets job_bytes e.job)
+read_by job (Err r) = sent (refusal_number r) job
 
 -- SHAPE where the range for the job has another size; else the envelope at the front of the lent bytes
 unfoldable pub read_envelope : List ℕ → List ℕ → Sent

@@ -4,50 +4,46 @@
 --    8 bits  0
 --    8 bits  1 where the part is there, 0 where it is not
 --   16 bits  its bits, in the buffer from the first on
-use Rattle.std.specs.Prelude.{ℕ, zero, suc, ◌+◌, ◌*◌, ◌%◌, cond, List, eqb, ltb, length}
-use Rattle.words.specs.Limits.{room, shape}
+use Rattle.std.specs.Prelude.{ℕ, zero, suc, ◌+◌, ◌*◌, ◌%◌, cond, List, eqb, ltb, length, Err, None, Ok, Option, Result, Some}
+use Rattle.words.specs.Limits.{room, shape, unwritten_number}
 use Rattle.bits.specs.Bits.{run}
 use Rattle.fields.specs.Refusals.{packed}
 use Rattle.apdu.specs.Sizes.{buffer_least, octet, bit}
 use Rattle.apdu.specs.Pdus.{lent}
 use Rattle.apdu.specs.Reading.{whole_data}
 use Rattle.apdu.specs.Writing.{Done, write_out, run_fits}
-use Rattle.apdu.specs.declared.Part.{Part}
-use Rattle.apdu.specs.declared.Part.TheVariants.{Absent, Given}
 use Rattle.apdu.specs.declared.Data.{Data}
-use Rattle.apdu.specs.declared.Taken.{Taken}
-use Rattle.apdu.specs.declared.Taken.TheVariants as taken
-use Rattle.apdu.specs.declared.Written.{Written}
-use Rattle.apdu.specs.declared.Written.TheVariants as written
 use Rattle.layout.specs.Calls.{Sent, sent}
+use Rattle.fields.specs.Fields.{Reading}
+use Rattle.pdus.specs.declared.Span.{Span}
+use Rattle.words.specs.declared.Unwritten.{Unwritten}
 
-unfoldable pub chosen : ℕ → Data → Part
-chosen which d = cond (eqb which 0) d.identifier (cond (eqb which 1) d.message (Given d.check))
+unfoldable pub chosen : ℕ → Data → Option Span
+chosen which d = cond (eqb which 0) d.identifier (cond (eqb which 1) d.message (Some d.check))
 
 -- the bits of an item
 unfoldable pub unit_of : ℕ → ℕ
 unit_of which = cond (eqb which 0) octet bit
 
-abbrev pub count_of : Part → ℕ
-count_of Absent = 0
-count_of (Given x) = x.count
+abbrev pub count_of : Option Span → ℕ
+count_of None = 0
+count_of (Some x) = x.count
 
-unfoldable pub part_answer : Written → ℕ
-part_answer (written.Bits n) = 256 * (1 + 256 * (n % 65536))
-part_answer written.Room = room
-part_answer written.Shape = shape
+unfoldable pub part_answer : Result ℕ Unwritten → ℕ
+part_answer (Ok n) = 256 * (1 + 256 * (n % 65536))
+part_answer (Err x) = unwritten_number x
 
 abbrev pub part_done : Done → Sent
 part_done x = sent (part_answer x.answer) x.bytes
 
 -- a part that is there, at the front of the buffer
-unfoldable pub put_out : List ℕ → List ℕ → ℕ → Part → Sent
-put_out out s unit Absent = sent 0 out
-put_out out s unit (Given x) = part_done (write_out (run_fits s x.at (unit * x.count)) out (run s x.at (unit * x.count)))
+unfoldable pub put_out : List ℕ → List ℕ → ℕ → Option Span → Sent
+put_out out s unit None = sent 0 out
+put_out out s unit (Some x) = part_done (write_out (run_fits s x.at (unit * x.count)) out (run s x.at (unit * x.count)))
 
-unfoldable pub put_chosen : List ℕ → List ℕ → ℕ → Taken → Sent
-put_chosen out s which (taken.Is d next) = put_out out s (unit_of which) (chosen which d)
-put_chosen out s which (taken.Refused r) = sent (packed r) out
+unfoldable pub put_chosen : List ℕ → List ℕ → ℕ → Reading Data → Sent
+put_chosen out s which (Ok (d, next)) = put_out out s (unit_of which) (chosen which d)
+put_chosen out s which (Err r) = sent (packed r) out
 
 -- ROOM, then SHAPE of the number that chooses, then the refusals of message data
 unfoldable pub part_call : List ℕ → ℕ → List ℕ → Sent

@@ -6,7 +6,7 @@
 --    8 bits  the alternative, by its tag
 --    8 bits  the reason of an abort, the mode of a start, the result of a forward response, else 0
 --    8 bits  1 where there is message data, else 0
-use Rattle.std.specs.Prelude.{ℕ, ◌+◌, ◌*◌, ◌%◌, cond, List, eqb}
+use Rattle.std.specs.Prelude.{ℕ, ◌+◌, ◌*◌, ◌%◌, cond, List, eqb, Err, None, Ok, Option, Result, Some}
 use Rattle.words.specs.Limits.{shape}
 use Rattle.fields.specs.Refusals.{packed}
 use Rattle.apdu.specs.Pdus.{lent}
@@ -15,21 +15,19 @@ use Rattle.editions.specs.declared.Edition.{Edition}
 use Rattle.editions.specs.declared.Edition.TheVariants.{Plain, Protected}
 use Rattle.pdus.specs.declared.PduType.{PduType}
 use Rattle.pdus.specs.declared.PduType.TheVariants.{AircraftPdus, GroundPdus}
-use Rattle.apdu.specs.declared.Part.{Part}
-use Rattle.apdu.specs.declared.Part.TheVariants as part
 use Rattle.apdu.specs.declared.Apdu.{Apdu}
 use Rattle.apdu.specs.declared.Apdu.TheVariants as apdu
-use Rattle.apdu.specs.declared.Decoded.{Decoded}
-use Rattle.apdu.specs.declared.Decoded.TheVariants as decoded
+use Rattle.fields.specs.declared.Refusal.{Refusal}
+use Rattle.pdus.specs.declared.Span.{Span}
 
 abbrev pub apdu_said : ℕ → ℕ → ℕ → ℕ
 apdu_said tag number given = 256 * (tag + 256 * (number % 256 + 256 * given))
 
 -- a start of type 2 may hold no message
-abbrev pub start_given : Edition → Part → ℕ
+abbrev pub start_given : Edition → Option Span → ℕ
 start_given Protected x = 1
-start_given Plain part.Absent = 0
-start_given Plain (part.Given x) = 1
+start_given Plain None = 0
+start_given Plain (Some x) = 1
 
 unfoldable pub apdu_number : Edition → Apdu → ℕ
 apdu_number ed (apdu.AbortUser r) = apdu_said 0 r 0
@@ -39,9 +37,9 @@ apdu_number ed (apdu.Send d) = apdu_said 3 0 1
 apdu_number ed (apdu.Forward f) = apdu_said 4 0 0
 apdu_number ed (apdu.ForwardResponse x) = apdu_said 5 x 0
 
-unfoldable pub apdu_answer : Edition → Decoded → ℕ
-apdu_answer ed (decoded.Is a) = apdu_number ed a
-apdu_answer ed (decoded.Refused r) = packed r
+unfoldable pub apdu_answer : Edition → Result Apdu Refusal → ℕ
+apdu_answer ed (Ok a) = apdu_number ed a
+apdu_answer ed (Err r) = packed r
 
 abbrev pub apdu_in : Edition → PduType → List ℕ → ℕ
 apdu_in ed t s = apdu_answer ed (apdu_at ed t (lent s))

@@ -1,21 +1,22 @@
 // The broker's envelopes as they arrive in fragments. The host keeps the reader's record; a finished envelope stands in it until the next
 // call.
-ghost use Rattle.std.specs.Prelude.{◌≡◌, length};
+ghost use Rattle.std.specs.Prelude.{Ok, ◌≡◌, length};
 ghost use Rattle.card.specs.Arriving.{end_mail, fresh_mail, job_by, take_mail, taken_number, took};
 ghost use Rattle.card.specs.Mail.{job_bytes};
 ghost use Rattle.layout.specs.Calls.{sent};
 
 use crate::mail::{JOB_BYTES, packed, put_job};
 use envelope::Envelope;
-use fragments::Taken;
 use fragments::ending::end;
 use fragments::stored::make_fresh;
 use fragments::taking::take;
+use fragments::{Taken, Untaken};
 use words::Limit;
 
 // A finished envelope and the bytes that were taken, in one number.
+#[tactic(auto, unfolding(crate::specs::Arriving::taken_number))]
 fn whole_number(e: Envelope, n: usize) -> u64
-    ensures { result ≡ taken_number (Taken.Whole e n) }
+    ensures { result ≡ taken_number (Ok (Taken.Whole e n)) }
 {
     packed(Envelope {
         kind: e.kind,
@@ -27,8 +28,9 @@ fn whole_number(e: Envelope, n: usize) -> u64
 }
 
 // The bytes that were taken, in one number.
+#[tactic(auto, unfolding(crate::specs::Arriving::taken_number))]
 fn part_number(n: usize) -> u64
-    ensures { result ≡ taken_number (Taken.Part n) }
+    ensures { result ≡ taken_number (Ok (Taken.Part n)) }
 {
     packed(Envelope {
         kind: 0,
@@ -40,27 +42,25 @@ fn part_number(n: usize) -> u64
 }
 
 // What a call answers, in one number.
-fn taken_number(t: Taken) -> u64
+#[tactic(auto, unfolding(crate::specs::Arriving::taken_number))]
+fn taken_number(t: Result<Taken, Untaken>) -> u64
     ensures { result ≡ taken_number t }
 {
     match t {
-        Taken::Whole(e, n) => whole_number(e, n),
-        Taken::Part(n) => part_number(n),
-        Taken::Refused(r) => r.number(),
-        Taken::Shape => Limit::SHAPE,
+        Ok(Taken::Whole(e, n)) => whole_number(e, n),
+        Ok(Taken::Part(n)) => part_number(n),
+        Err(x) => x.number(),
     }
 }
 
 // The job of an envelope that is finished.
-fn put_taken_job(t: Taken, job: &mut [u8])
+#[tactic(auto, unfolding(crate::specs::Arriving::job_by))]
+fn put_taken_job(t: Result<Taken, Untaken>, job: &mut [u8])
     requires { length job.old ≡ job_bytes }
     ensures { job.new ≡ job_by job.old t }
 {
-    match t {
-        Taken::Whole(e, _) => put_job(job, e.job),
-        Taken::Part(_) => {}
-        Taken::Refused(_) => {}
-        Taken::Shape => {}
+    if let Ok(Taken::Whole(e, _)) = t {
+        put_job(job, e.job);
     }
 }
 

@@ -24,28 +24,31 @@ fn put_counts(counts: &mut [u8], c: Compared)
     requires { length counts.old ≡ count_bytes }
     ensures { counts.new ≡ counts_of c }
 {
-    counts[0] = ((c.first / 256) % 256) as u8;
-    counts[1] = (c.first % 256) as u8;
-    counts[2] = ((c.second / 256) % 256) as u8;
-    counts[3] = (c.second % 256) as u8;
-    counts[4] = ((c.repeated / 256) % 256) as u8;
-    counts[5] = (c.repeated % 256) as u8;
+    counts.copy_from_slice(&[
+        ((c.first / 256) % 256) as u8,
+        (c.first % 256) as u8,
+        ((c.second / 256) % 256) as u8,
+        (c.second % 256) as u8,
+        ((c.repeated / 256) % 256) as u8,
+        (c.repeated % 256) as u8,
+    ]);
 }
 
 // The number of a report, and its counts where it is no refusal.
+#[tactic(auto, unfolding(crate::specs::Comparing::tells_by))]
 fn tell(c: Compared, counts: &mut [u8]) -> u64
     requires { length counts.old ≡ count_bytes }
     ensures { sent result counts.new ≡ tells_by counts.old c }
 {
-    if c.refusal != 0 {
-        return compared_number(c);
+    if c.refusal == 0 {
+        put_counts(counts, c);
     }
-    put_counts(counts, c);
     compared_number(c)
 }
 
 // Two recordings compared: the first envelope that differs, or where the rest of the longer one begins; the jobs into three lists, eight bytes
 // each; how many each list has taken, into the lent range of six bytes; or the refusal.
+#[tactic(auto, unfolding(crate::specs::Comparing::compare_at))]
 #[unsafe(no_mangle)]
 pub extern "C" fn peat_compare(
     first: &[u8],

@@ -7,12 +7,12 @@ ghost use Rattle.layout.specs.Calls.{sent};
 ghost use Rattle.step.specs.Call.{called, forward_call};
 
 use crate::mail::put_eight;
-use apdu::{Apdu, Forward, Forwarded, Heading, Triple, Written, put_run};
+use apdu::{Apdu, Forward, Heading, Triple, put_run};
 use codec::read_forward;
 use editions::Edition;
 use pdus::Span;
 use step::forward_call;
-use words::Limit;
+use words::{Limit, Unwritten};
 
 // CPDLC-forward request, which brings a dialogue number as a start does. The flight identification is the count of its characters, and they
 // as one number, seven bits each, the first on top; the direction says what the message's bits are (0 uplink, 1 downlink); they stand in
@@ -79,7 +79,8 @@ pub extern "C" fn peat_forward_request(
     forward_call(rec, first, second, class, security, number, msgs, f)
 }
 
-// The message's bits by number; as many parts are in front of them.
+// The parts have the numbers that the host has for them: the C interface of `peat_forward_part`. This is that of the message's bits; as many parts
+// are in front of them.
 const MESSAGE: u64 = 10;
 
 // The parts of a forward message of application type 2 begin here.
@@ -92,15 +93,13 @@ const HEADING_BYTES: usize = 80;
 fn heading_part(which: u64, h: Heading) -> u64
     ensures { result ≡ heading_part which h }
 {
-    let date = h.date;
-    let time = h.time;
     match which {
-        0 => date.first,
-        1 => date.second,
-        2 => date.third,
-        3 => time.first,
-        4 => time.second,
-        5 => time.third,
+        0 => h.date.first,
+        1 => h.date.second,
+        2 => h.date.third,
+        3 => h.time.first,
+        4 => h.time.second,
+        5 => h.time.third,
         6 => h.characters,
         7 => h.flight,
         8 => h.address,
@@ -114,26 +113,25 @@ fn told(n: u64) -> u64
     256 * (n % 72057594037927936)
 }
 
-fn message_answer(w: Written) -> u64
+#[tactic(auto, unfolding(crate::specs::Forwarding::message_answer))]
+fn message_answer(w: Result<usize, Unwritten>) -> u64
     ensures { result ≡ message_answer w }
 {
     match w {
-        Written::Bits(n) => told(n as u64),
-        Written::Room => Limit::ROOM,
-        Written::Shape => Limit::SHAPE,
+        Ok(n) => told(n as u64),
+        Err(x) => x.number(),
     }
 }
 
 // A part of a forward message that stands in lent bytes.
+#[tactic(auto, unfolding(crate::specs::Forwarding::forward_part))]
 fn forward_part(out: &mut [u8], s: &[u8], which: u64, f: Forward) -> u64
     ensures { sent result out.new ≡ forward_part out.old s.now which f }
 {
-    let heading = f.heading;
-    let message = f.message;
     if which == MESSAGE {
-        return message_answer(put_run(out, s, message.at, message.count));
+        return message_answer(put_run(out, s, f.message.at, f.message.count));
     }
-    told(heading_part(which, heading))
+    told(heading_part(which, f.heading))
 }
 
 // The edition of a part's number, and the part.
@@ -141,21 +139,24 @@ fn edition_in(which: u64) -> Edition
     ensures { result ≡ edition_in which }
 {
     if which < PLAIN_PARTS {
-        return Edition::Protected;
+        Edition::Protected
+    } else {
+        Edition::Plain
     }
-    Edition::Plain
 }
 
 fn part_in(which: u64) -> u64
     ensures { result ≡ part_in which }
 {
     if which < PLAIN_PARTS {
-        return which;
+        which
+    } else {
+        which - PLAIN_PARTS
     }
-    which - PLAIN_PARTS
 }
 
 // One part of a forward message as it was delivered.
+#[tactic(auto, unfolding(crate::specs::Forwarding::forward_part_call, crate::specs::Forwarding::forward_chosen))]
 #[unsafe(no_mangle)]
 pub extern "C" fn peat_forward_part(which: u64, delivered: &[u8], out: &mut [u8]) -> u64
     ensures { sent result out.new ≡ forward_part_call out.old which delivered.now }
@@ -167,10 +168,9 @@ pub extern "C" fn peat_forward_part(which: u64, delivered: &[u8], out: &mut [u8]
     if MESSAGE < part {
         return Limit::SHAPE;
     }
-    let whole = read_forward(edition_in(which), delivered);
-    match whole {
-        Forwarded::Refused(r) => fields::packed(r),
-        Forwarded::Is(f, _) => forward_part(out, delivered, part, f),
+    match read_forward(edition_in(which), delivered) {
+        Err(r) => fields::packed(r),
+        Ok((f, _)) => forward_part(out, delivered, part, f),
     }
 }
 
@@ -179,39 +179,36 @@ fn put_numbers(heading: &mut [u8], h: Heading)
     requires { length heading.old ≡ heading_bytes }
     ensures { heading.new ≡ eights (heading_numbers h) }
 {
-    let mut i: usize = 0;
-    while i < 10 {
+    for i in 0..10usize {
         put_eight(heading, 8 * i, heading_part(i as u64, h));
-        i += 1;
     }
 }
 
 // They are put where the message's bits are.
-fn put_heading(heading: &mut [u8], h: Heading, w: Written)
+#[tactic(auto, unfolding(crate::specs::Forwarding::heading_by))]
+fn put_heading(heading: &mut [u8], h: Heading, w: Result<usize, Unwritten>)
     requires { length heading.old ≡ heading_bytes }
     ensures { heading.new ≡ heading_by heading.old h w }
 {
-    match w {
-        Written::Bits(_) => put_numbers(heading, h),
-        Written::Room => {}
-        Written::Shape => {}
+    if w.is_ok() {
+        put_numbers(heading, h);
     }
 }
 
 // All parts of a forward message that stands in lent bytes.
+#[tactic(auto, unfolding(crate::specs::Forwarding::forward_parts))]
 fn forward_parts(heading: &mut [u8], out: &mut [u8], s: &[u8], f: Forward) -> u64
     requires { length heading.old ≡ heading_bytes }
     ensures { opened result heading.new out.new ≡ forward_parts heading.old out.old s.now f }
 {
-    let h = f.heading;
-    let message = f.message;
-    let w = put_run(out, s, message.at, message.count);
-    put_heading(heading, h, w);
+    let w = put_run(out, s, f.message.at, f.message.count);
+    put_heading(heading, f.heading, w);
     message_answer(w)
 }
 
 // All parts of a forward message of an application type (2, 22) as it was delivered: the numbers into the lent range of eighty bytes, the message's bits
 // into the buffer.
+#[tactic(auto, unfolding(crate::specs::Forwarding::read_forward, crate::specs::Forwarding::forward_opened))]
 #[unsafe(no_mangle)]
 pub extern "C" fn peat_read_forward(
     delivered: &[u8],
@@ -224,15 +221,11 @@ pub extern "C" fn peat_read_forward(
     if out.len() < Apdu::BUFFER {
         return Limit::ROOM;
     }
-    if !Edition::is_type(application) {
+    if !Edition::is_type(application) || heading.len() != HEADING_BYTES {
         return Limit::SHAPE;
     }
-    if heading.len() != HEADING_BYTES {
-        return Limit::SHAPE;
-    }
-    let whole = read_forward(Edition::of_type(application), delivered);
-    match whole {
-        Forwarded::Refused(r) => fields::packed(r),
-        Forwarded::Is(f, _) => forward_parts(heading, out, delivered, f),
+    match read_forward(Edition::of_type(application), delivered) {
+        Err(r) => fields::packed(r),
+        Ok((f, _)) => forward_parts(heading, out, delivered, f),
     }
 }

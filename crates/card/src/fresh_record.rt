@@ -19,6 +19,7 @@ const FIRST_NUMBER: u64 = 0;
 
 // A fresh record for a side (1 air, 2 ground), with the security value that local policy accepts, whether forwarding is supported (0, 1),
 // the own version (1 to 255), and the application type (2, 22).
+#[tactic(auto, unfolding(crate::specs::Face::fresh_call, crate::specs::Face::fresh_for))]
 #[unsafe(no_mangle)]
 pub extern "C" fn peat_fresh(
     rec: &mut [u8],
@@ -30,24 +31,18 @@ pub extern "C" fn peat_fresh(
 ) -> u64
     ensures { made result rec.new ≡ fresh_call rec.old side policy forwards version application }
 {
-    if 1 < forwards {
+    if 1 < forwards || !Edition::is_type(application) {
         return Limit::SHAPE;
     }
-    if !Edition::is_type(application) {
-        return Limit::SHAPE;
-    }
-    let edition = Edition::of_type(application);
     let r = Record::fresh(Configuration {
         policy,
         forwards: forwards == 1,
         version,
-        edition,
+        edition: Edition::of_type(application),
     });
-    if side == 1 {
-        return told_made(store(rec, Side::Air, r, FIRST_NUMBER));
+    match side {
+        1 => told_made(store(rec, Side::Air, r, FIRST_NUMBER)),
+        2 => told_made(store(rec, Side::Ground, r, FIRST_NUMBER)),
+        _ => Limit::SHAPE,
     }
-    if side == 2 {
-        return told_made(store(rec, Side::Ground, r, FIRST_NUMBER));
-    }
-    Limit::SHAPE
 }

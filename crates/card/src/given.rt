@@ -5,40 +5,40 @@ ghost use Rattle.std.specs.Prelude.{◌≡◌};
 ghost use Rattle.card.specs.Face.{data_call, given_data, part_of, plain_call};
 ghost use Rattle.step.specs.Call.{called};
 
-use apdu::{Data, Part};
+use apdu::Data;
 use machine::event::{Event, UserPrimitive};
 use pdus::Span;
 use step::{no_data, user_call};
 
 // The count that says "none": no message, no reason.
-pub(crate) const NONE: u64 = 18446744073709551615;
+pub(crate) const NONE: u64 = u64::MAX;
 
 // What stands for the dialogue number of an event that brings none.
 const NO_NUMBER: u64 = 0;
 
 // n items from the first bit on, or none.
-fn part_of(absent: bool, n: usize) -> Part
+#[tactic(auto, unfolding(crate::specs::Face::part_of))]
+fn part_of(absent: bool, n: usize) -> Option<Span>
     ensures { result ≡ part_of absent n }
 {
     if absent {
-        return Part::Absent;
+        None
+    } else {
+        Some(Span { at: 0, count: n })
     }
-    Part::Given(Span { at: 0, count: n })
 }
 
+#[tactic(auto, unfolding(crate::specs::Face::given_data))]
 pub(crate) fn given_data(octets: usize, message: u64, check: u64) -> Data
     ensures { result ≡ given_data octets message check }
 {
-    let i = part_of(octets == 0, octets);
-    let m = part_of(message == NONE, message as usize);
-    let k = Span {
-        at: 0,
-        count: check as usize,
-    };
     Data {
-        identifier: i,
-        message: m,
-        check: k,
+        identifier: part_of(octets == 0, octets),
+        message: part_of(message == NONE, message as usize),
+        check: Span {
+            at: 0,
+            count: check as usize,
+        },
     }
 }
 

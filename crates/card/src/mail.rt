@@ -7,8 +7,8 @@ ghost use Rattle.layout.specs.Calls.{sent};
 
 use envelope::reading::read_envelope;
 use envelope::writing::write_envelope;
-use envelope::{Envelope, EnvelopeRead, EnvelopeWritten};
-use words::Limit;
+use envelope::{Envelope, EnvelopeRefusal};
+use words::{Limit, Unwritten};
 
 // What an envelope says, in one number.
 pub(crate) fn packed(e: Envelope) -> u64
@@ -26,10 +26,8 @@ pub(crate) fn put_eight(b: &mut [u8], at: usize, v: u64)
     requires { at + 8 ≤ length b.old }
     ensures { b.new ≡ sets b.old at (octets 8 v) }
 {
-    let mut i: usize = 0;
-    while i < 8 {
+    for i in 0..8usize {
         b[at + i] = ((v >> (8 * (7 - i))) % 256) as u8;
-        i += 1;
     }
 }
 
@@ -42,21 +40,23 @@ pub(crate) fn put_job(job: &mut [u8], number: u64)
 }
 
 // What was read: its number, and the job where there is one.
-fn told(r: EnvelopeRead, job: &mut [u8]) -> u64
+#[tactic(auto, unfolding(crate::specs::Mail::read_by))]
+fn told(r: Result<Envelope, EnvelopeRefusal>, job: &mut [u8]) -> u64
     requires { length job.old ≡ job_bytes }
     ensures { sent result job.new ≡ read_by job.old r }
 {
     match r {
-        EnvelopeRead::Is(e) => {
+        Ok(e) => {
             put_job(job, e.job);
             packed(e)
         }
-        EnvelopeRead::Refused(x) => x.number(),
+        Err(x) => x.number(),
     }
 }
 
 // The envelope at the front of lent bytes: its kind, bit count, and the bytes before its body and before the next envelope, and its job
 // into the lent range of eight bytes; or the refusal.
+#[tactic(auto, unfolding(crate::specs::Mail::read_envelope))]
 #[unsafe(no_mangle)]
 pub extern "C" fn peat_read_envelope(lent: &[u8], job: &mut [u8]) -> u64
     ensures { sent result job.new ≡ read_envelope lent.now job.old }
@@ -68,17 +68,18 @@ pub extern "C" fn peat_read_envelope(lent: &[u8], job: &mut [u8]) -> u64
 }
 
 // What the writer answers, in one number.
-fn written_answer(w: EnvelopeWritten) -> u64
+#[tactic(auto, unfolding(crate::specs::Mail::written_answer))]
+fn written_answer(w: Result<usize, Unwritten>) -> u64
     ensures { result ≡ written_answer w }
 {
     match w {
-        EnvelopeWritten::Bytes(n) => 256 * ((n % 65536) as u64),
-        EnvelopeWritten::Room => Limit::ROOM,
-        EnvelopeWritten::Shape => Limit::SHAPE,
+        Ok(n) => 256 * ((n % 65536) as u64),
+        Err(x) => x.number(),
     }
 }
 
 // An envelope into a lent buffer, from its front on: the bytes that it takes; or the refusal.
+#[tactic(auto, unfolding(crate::specs::Mail::put_envelope))]
 #[unsafe(no_mangle)]
 pub extern "C" fn peat_write_envelope(
     kind: u64,

@@ -4,15 +4,16 @@ ghost use Rattle.book.specs.Books.{close_at, count_at, empty_at, job_at, open_at
 ghost use Rattle.layout.specs.Calls.{sent};
 ghost use Rattle.card.specs.MessageNumbers.{answer_number, leaves};
 
-use book::Answer;
+use book::BookRefusal;
 
 // What a call answers, in one number.
-fn answer_number(a: Answer) -> u64
+#[tactic(auto, unfolding(crate::specs::MessageNumbers::answer_number))]
+fn answer_number(a: Result<u64, BookRefusal>) -> u64
     ensures { result ≡ answer_number a }
 {
     match a {
-        Answer::Is(x) => 256 * (x % 256),
-        Answer::Refused(r) => r.number(),
+        Ok(x) => 256 * (x % 256),
+        Err(r) => r.number(),
     }
 }
 

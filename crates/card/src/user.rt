@@ -5,7 +5,7 @@ ghost use Rattle.step.specs.Call.{called};
 
 use crate::given::{NONE, data_call, given_data, plain_call};
 use machine::event::{Event, UserPrimitive};
-use step::{host_call, user_call};
+use step::{HostEvent, host_call, user_call};
 
 // Start request, with its dialogue number and its mode.
 #[unsafe(no_mangle)]
@@ -244,9 +244,10 @@ fn abort_requested(reason: u64) -> UserPrimitive
     ensures { result ≡ abort_requested reason }
 {
     if reason == NONE {
-        return UserPrimitive::UserAbortServiceRequest(false, 0);
+        UserPrimitive::UserAbortServiceRequest(false, 0)
+    } else {
+        UserPrimitive::UserAbortServiceRequest(true, reason)
     }
-    UserPrimitive::UserAbortServiceRequest(true, reason)
 }
 
 // CPDLC-user-abort request, with a reason or NONE.
@@ -269,7 +270,7 @@ pub extern "C" fn peat_timer_expiry(rec: &mut [u8], first: &mut [u8], second: &m
     ensures { called result rec.new first.new second.new ≡
         plain_call rec.old first.old second.old Event.TimerExpires }
 {
-    host_call(rec, first, second, true)
+    host_call(rec, first, second, HostEvent::TimerExpires)
 }
 
 // An unrecoverable system error.
@@ -278,5 +279,5 @@ pub extern "C" fn peat_system_error(rec: &mut [u8], first: &mut [u8], second: &m
     ensures { called result rec.new first.new second.new ≡
         plain_call rec.old first.old second.old Event.UnrecoverableSystemError }
 {
-    host_call(rec, first, second, false)
+    host_call(rec, first, second, HostEvent::SystemError)
 }

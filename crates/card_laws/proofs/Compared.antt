@@ -3,13 +3,13 @@
 use mathlib.Core.Path.{◌≡◌, refl, ap, sym, subst, ◌∙◌}
 use mathlib.Core.Bool.{Bool, true, false, cond}
 use mathlib.Core.List.{List, [], ◌∷◌, ◌++◌, map}
-use Prim.Native.Nat.{ℕ, zero, suc, ◌+◌, ◌-◌, ◌*◌, ◌/◌, ◌%◌, ◌^◌, ◌≤◌, ◌<◌}
+use Prim.Native.Nat.{ℕ, suc, ◌+◌, ◌*◌, ◌/◌, ◌%◌, ◌^◌, ◌≤◌, ◌<◌}
 use native.Mathlib.Omega.{arith}
-use lib.Dec.{leb, ltb, eqb}
-use lib.ListN.{length, drop, length-append, length-drop}
-use borrow.Author.Tests.{ltb-true, ltb-false}
+use lib.Dec.{ltb, eqb}
+use lib.ListN.{length, length-append}
+use borrow.Author.Tests.{ltb-false}
 use Rattle.envelope.specs.Envelopes.{Content, bytes_of, most_bits, refusal_number}
-use Rattle.envelope.specs.Strings.{string_of, all_placed, AllFit, Ending, ended, stopped, Walk, walk, Told, whole, broken, contents_of}
+use Rattle.envelope.specs.Strings.{string_of, all_placed, Ending, ended, stopped, Walk, walk, Told, whole, broken, contents_of}
 use Rattle.envelope.specs.declared.Envelope.{Envelope}
 use Rattle.envelope.specs.declared.EnvelopeRefusal.{EnvelopeRefusal}
 use Rattle.envelope.specs.declared.EnvelopeRefusal.TheVariants as refusal
@@ -18,15 +18,14 @@ use Rattle.envelope.proofs.Both.{contents_back}
 use Rattle.envelope.proofs.Strings.{bytes_three, every_string}
 use Rattle.recordings.specs.Jobs.{insert, insert_all, rising, keep, only, repeats, only_first, only_second, repeated}
 use Rattle.recordings.specs.Recordings.{most_bytes, contents, jobs, stop_in, searched, field_of, same, differ, difference}
-use Rattle.recordings.specs.Showing.{Shown, shown, refused_with, longer, rest_at, reported, lacks, listed, counts, showing, searched_by, compared}
-use Rattle.recordings.specs.declared.Searched.{Searched}
-use Rattle.recordings.specs.declared.Searched.TheVariants.{Whole, Stopped}
+use Rattle.recordings.proofs.Findings.{stop, Searched, found}
+use Rattle.recordings.specs.Showing.{shown, refused_with, longer, rest_at, reported, lacks, listed, counts, showing, searched_by, compared}
+use Rattle.recordings.specs.declared.Stop.{Stop}
 use Rattle.recordings.specs.declared.Difference.{Difference}
-use Rattle.recordings.specs.declared.Difference.TheVariants.{Nowhere, At}
 use Rattle.recordings.specs.declared.Compared.{Compared}
-use Rattle.recordings.specs.declared.Counts.{Counts as CountsOf}
 use Rattle.card.specs.Comparing.{compared_number, counts_of}
-use Rattle.card_laws.specs.Answers.{Reads, two_at, Counts}
+use Rattle.card_laws.specs.Answers.{Reads, Counts}
+use Rattle.std.specs.Prelude.{Err, None, Ok, Option, Some}
 
 never : {A : Type 0} → ◌≡◌ {A = ℕ} 0 1 → A
 never e = absurd (omega arith)
@@ -98,36 +97,34 @@ bytes_of_is limit s w (broken cs t r fits e h q) n = absurd (n r (0 + length (st
 
 -- ---- the search
 
-record Stop (a b : List ℕ) (recording at : ℕ) : Type 0 where
-  one : recording < 256
-  there : at < 65536
+record Stands (s : Stop) : Type 0 where
+  one : s.recording < 256
+  there : s.byte < 65536
 
 search_stop : (limit : ℕ) (a b : List ℕ) → AllBytes a → AllBytes b → length a ≤ most_bytes → length b ≤ most_bytes
-    → (r : EnvelopeRefusal) (recording at : ℕ) → searched limit a b ≡ Stopped r recording at → Stop a b recording at
+    → (s : Stop) → searched limit a b ≡ Err s → Stands s
 unfolding searched
-search_stop limit a b p q g h r recording at e = by (walk limit a).ending refl e
+search_stop limit a b p q g h s e = by (walk limit a).ending refl e
   where
-    on : (y : Ending) → (walk limit b).ending ≡ y → stop_in 2 y Whole ≡ Stopped r recording at → Stop a b recording at
+    on : (y : Ending) → (walk limit b).ending ≡ y → stop_in 2 y (Ok tt) ≡ Err s → Stands s
     on (ended n) f k = never (cc)
     on (stopped x n) f k =
         let w = stops_within limit b (walk limit b) (every_string limit b q) x n f in
-        let i : 2 ≡ recording = cc in
-        let j : n ≡ at = cc in
-        record { one = omega arith; there = omega arith }
+        let z : stop x 2 n ≡ s = cc in
+        subst Stands z (record { one = omega arith; there = omega arith })
 
     by : (x : Ending) → (walk limit a).ending ≡ x
-        → stop_in 1 x (stop_in 2 (walk limit b).ending Whole) ≡ Stopped r recording at → Stop a b recording at
+        → stop_in 1 x (stop_in 2 (walk limit b).ending (Ok tt)) ≡ Err s → Stands s
     by (ended n) f k = on (walk limit b).ending refl k
     by (stopped x n) f k =
         let w = stops_within limit a (walk limit a) (every_string limit a p) x n f in
-        let i : 1 ≡ recording = cc in
-        let j : n ≡ at = cc in
-        record { one = omega arith; there = omega arith }
+        let z : stop x 1 n ≡ s = cc in
+        subst Stands z (record { one = omega arith; there = omega arith })
 
-first_ends : (limit : ℕ) (a b : List ℕ) → searched limit a b ≡ Whole → (r : EnvelopeRefusal) (k : ℕ)
+first_ends : (limit : ℕ) (a b : List ℕ) → searched limit a b ≡ Ok tt → (r : EnvelopeRefusal) (k : ℕ)
     → (walk limit a).ending ≡ stopped r k → ⊥
 unfolding searched
-first_ends limit a b e r k g = let w : Stopped r 1 k ≡ Whole = rw g at e in never (cc)
+first_ends limit a b e r k g = let w : ◌≡◌ {A = Searched} (Err (stop r 1 k)) (Ok tt) = rw g at e in never (cc)
 
 -- ---- the first difference
 
@@ -142,13 +139,13 @@ field_most x y = by (eqb x.kind y.kind) (eqb x.job y.job) (eqb x.bits y.bits) (s
     by true false r t = omega arith
     by false q r t = omega arith
 
-record Before (n k : ℕ) (d : Difference) : Type 0 where
-  pub least : (i at f : ℕ) → d ≡ At i at f → (i ≤ n) × (at ≤ k) × (f ≤ 4)
+record Before (n k : ℕ) (d : Option Difference) : Type 0 where
+  pub least : (x : Difference) → d ≡ Some x → (x.before ≤ n) × (x.byte ≤ k) × (x.field ≤ 4)
 
 differ_before : (i at : ℕ) (xs ys : List Content) → Before (i + length xs) (at + length (string_of xs)) (differ i at xs ys)
 unfolding differ string_of
-differ_before i at [] ys = record { least = λ (j k f : ℕ) (e : Nowhere ≡ At j k f). never (cc) }
-differ_before i at (x ∷ xs) [] = record { least = λ (j k f : ℕ) (e : Nowhere ≡ At j k f). never (cc) }
+differ_before i at [] ys = record { least = λ (d : Difference) (e : None ≡ Some d). never (cc) }
+differ_before i at (x ∷ xs) [] = record { least = λ (d : Difference) (e : None ≡ Some d). never (cc) }
 differ_before i at (x ∷ xs) (y ∷ ys) = by (eqb (field_of x y) 0) (differ_before (i + 1) (at + length (bytes_of x)) xs ys)
   where
     l : length (bytes_of x ++ string_of xs) ≡ length (bytes_of x) + length (string_of xs)
@@ -157,21 +154,22 @@ differ_before i at (x ∷ xs) (y ∷ ys) = by (eqb (field_of x y) 0) (differ_bef
     by : (t : Bool)
         → Before (i + 1 + length xs) (at + length (bytes_of x) + length (string_of xs)) (differ (i + 1) (at + length (bytes_of x)) xs ys)
         → Before (i + suc (length xs)) (at + length (bytes_of x ++ string_of xs))
-        (cond t (differ (i + 1) (at + length (bytes_of x)) xs ys) (At i at (field_of x y)))
+        (cond t (differ (i + 1) (at + length (bytes_of x)) xs ys) (Some (found i at (field_of x y))))
     by true w =
         record {
-          least = λ (j k f : ℕ) (e : differ (i + 1) (at + length (bytes_of x)) xs ys ≡ At j k f).
-              let o = w.least j k f e in
+          least = λ (d : Difference) (e : differ (i + 1) (at + length (bytes_of x)) xs ys ≡ Some d).
+              let o = w.least d e in
               let u = o.0 in
               let v = o.1 in
               (omega (arith, u), omega (arith, v, l), o.2);
         }
     by false w =
         record {
-          least = λ (j k f : ℕ) (e : At i at (field_of x y) ≡ At j k f).
-              let u : i ≡ j = cc in
-              let v : at ≡ k = cc in
-              let z : field_of x y ≡ f = cc in
+          least = λ (d : Difference) (e : Some (found i at (field_of x y)) ≡ Some d).
+              let z : found i at (field_of x y) ≡ d = cc in
+              let u : i ≡ d.before = ap (λ (t : Difference). t.before) z in
+              let v : at ≡ d.byte = ap (λ (t : Difference). t.byte) z in
+              let n : field_of x y ≡ d.field = ap (λ (t : Difference). t.field) z in
               let m = field_most x y in
               (omega arith, omega arith, omega arith);
         }
@@ -227,9 +225,9 @@ module _ (limit : ℕ) (a b : List ℕ) (p : AllBytes a) (q : AllBytes b) (g : l
       by false true = (omega arith, omega arith)
       by false false = (omega arith, omega arith)
 
-  small_report : (d : Difference) → Before 10923 32768 d → Small (reported (length a) (length b) d (counts (jobs limit a) (jobs limit b)))
+  small_report : (d : Option Difference) → Before 10923 32768 d → Small (reported (length a) (length b) d (counts (jobs limit a) (jobs limit b)))
   unfolding reported only_first only_second repeated
-  small_report Nowhere w =
+  small_report None w =
       let r = restful (length a) (length b) g h in
       record {
         refusal = omega arith;
@@ -241,8 +239,8 @@ module _ (limit : ℕ) (a b : List ℕ) (p : AllBytes a) (q : AllBytes b) (g : l
         second = listed_most (λ (x : ℕ). only (jobs limit b) (jobs limit a) x);
         repeated = listed_most (λ (x : ℕ). repeats (jobs limit a) (jobs limit b) x);
       }
-  small_report (At i at f) w =
-      let o = w.least i at f refl in
+  small_report (Some d) w =
+      let o = w.least d refl in
       let u = o.0 in
       let v = o.1 in
       let z = o.2 in
@@ -257,7 +255,7 @@ module _ (limit : ℕ) (a b : List ℕ) (p : AllBytes a) (q : AllBytes b) (g : l
         repeated = listed_most (λ (x : ℕ). repeats (jobs limit a) (jobs limit b) x);
       }
 
-  before : searched limit a b ≡ Whole → Before 10923 32768 (difference limit a b)
+  before : searched limit a b ≡ Ok tt → Before 10923 32768 (difference limit a b)
   unfolding difference
   before e =
       let l : length (string_of (contents limit a)) ≡ length a = bytes_of_is limit a (walk limit a) (every_string limit a p)
@@ -265,14 +263,14 @@ module _ (limit : ℕ) (a b : List ℕ) (p : AllBytes a) (q : AllBytes b) (g : l
       let t = string_three (contents limit a) in
       let w = differ_before 0 0 (contents limit a) (contents limit b) in
       record {
-        least = λ (i at f : ℕ) (k : differ 0 0 (contents limit a) (contents limit b) ≡ At i at f).
-            let o = w.least i at f k in
+        least = λ (d : Difference) (k : differ 0 0 (contents limit a) (contents limit b) ≡ Some d).
+            let o = w.least d k in
             let u = o.0 in
             let v = o.1 in
             (omega (arith, u, t, l), omega (arith, v, l), o.2);
       }
 
-  small_showing : (x y z : List ℕ) → searched limit a b ≡ Whole
+  small_showing : (x y z : List ℕ) → searched limit a b ≡ Ok tt
       → Small (showing (length a) (length b) (difference limit a b) (jobs limit a) (jobs limit b) x y z).answer
   unfolding showing
   small_showing x y z e = by (lacks (only_first (jobs limit a) (jobs limit b)) x)
@@ -301,10 +299,10 @@ module _ (limit : ℕ) (a b : List ℕ) (p : AllBytes a) (q : AllBytes b) (g : l
   small_searched x y z = by (searched limit a b) refl
     where
       by : (t : Searched) → searched limit a b ≡ t → Small (searched_by limit a b x y z t).answer
-      by Whole e = small_showing x y z e
-      by (Stopped r recording at) e =
-          let s = search_stop limit a b p q g h r recording at e in
-          small_refused (refusal_number r) recording at (number_most r) s.one s.there
+      by (Ok u) e = small_showing x y z e
+      by (Err s) e =
+          let w = search_stop limit a b p q g h s e in
+          small_refused (refusal_number s.refusal) s.recording s.byte (number_most s.refusal) w.one w.there
 
 small_compared : (limit : ℕ) (a b x y z : List ℕ) → AllBytes a → AllBytes b → Small (compared limit a b x y z).answer
 unfolding compared

@@ -1,15 +1,15 @@
 -- What the leading bits of an APDU answer is what the whole APDU answers, in each application type.
 -- Assumes nothing.
-use mathlib.Core.Path.{◌≡◌, refl, ap, sym, subst, ◌∙◌}
+use mathlib.Core.Path.{◌≡◌, refl, ap, sym, subst}
 use mathlib.Core.List.{List}
-use Prim.Native.Nat.{ℕ, ◌+◌, ◌*◌, ◌/◌, ◌%◌}
+use Prim.Native.Nat.{ℕ, ◌+◌, ◌*◌, ◌%◌}
 use native.Mathlib.Omega.{arith}
-use Rattle.fields.specs.Fields.{extensible_index}
+use Rattle.fields.specs.Fields.{extensible_index, Reading}
 use Rattle.fields.specs.Refusals.{number_of, packed}
 use Rattle.fields.specs.declared.Fault.{Fault}
 use Rattle.fields.specs.declared.Fault.TheVariants.{Short, Range, Extension, LengthForm, Limit, Tail, NotCarried, Default}
 use Rattle.fields.specs.declared.Refusal.{Refusal}
-use Rattle.apdu.specs.Pdus.{index_of, lent}
+use Rattle.apdu.specs.Pdus.{lent}
 use Rattle.apdu.specs.Sizes.{provider_last}
 use Rattle.apdu.specs.Headings.{response_last}
 use Rattle.apdu.specs.Reading.{leading_at}
@@ -24,37 +24,34 @@ use Rattle.apdu.specs.declared.Data.{Data}
 use Rattle.apdu.specs.declared.Forward.{Forward}
 use Rattle.apdu.specs.declared.Apdu.{Apdu}
 use Rattle.apdu.specs.declared.Apdu.TheVariants as apdu
-use Rattle.apdu.specs.declared.Lead.{Lead}
-use Rattle.apdu.specs.declared.Lead.TheVariants as lead
-use Rattle.apdu.specs.declared.Decoded.{Decoded}
-use Rattle.apdu.specs.declared.Decoded.TheVariants as decoded
 use Rattle.quick.specs.Leading.{lead_number, leading_call}
 use Rattle.quick.specs.Quick.{kind_in, mode_in as mode_of, Leads}
-use Rattle.quick.proofs.Laws.{Of, by_field, by_data, by_forward, led_accepted}
+use Rattle.quick.proofs.Laws.{Of, by_reading, led_accepted}
 use Rattle.card.specs.Recorded.{apdu_number, apdu_answer, apdu_call}
-use Rattle.card_laws.specs.Answers.{refusal_in, tag_in, mode_in, type_number, SameLead}
+use Rattle.card_laws.specs.Answers.{refusal_in, tag_in, type_number, SameLead}
+use Rattle.std.specs.Prelude.{Err, Ok, Result}
 
 never : {A : Type 0} → ◌≡◌ {A = ℕ} 0 1 → A
 never e = absurd (omega arith)
 
 -- ---- over one type
 
-rest_of : (ed : Edition) (t : PduType) (l : List ℕ) (c : Kind) (m n : ℕ) (a : Apdu) → rest_at ed t l c m n ≡ decoded.Is a → Of c m a
+rest_of : (ed : Edition) (t : PduType) (l : List ℕ) (c : Kind) (m n : ℕ) (a : Apdu) → rest_at ed t l c m n ≡ Ok a → Of c m a
 unfolding rest_at
-rest_of ed t l kind.AbortUser m n a e = by_field (extensible_index l n (user_last ed)) l (λ (r : ℕ). apdu.AbortUser r) a (Of kind.AbortUser m a) (λ (r : ℕ) (g : apdu.AbortUser r ≡ a). rw (sym g) (record { kind = refl; mode = refl })) e
-rest_of ed t l kind.AbortProvider m n a e = by_field (extensible_index l n provider_last) l (λ (r : ℕ). apdu.AbortProvider r) a (Of kind.AbortProvider m a) (λ (r : ℕ) (g : apdu.AbortProvider r ≡ a). rw (sym g) (record { kind = refl; mode = refl })) e
-rest_of ed t l kind.Start m n a e = by_data (start_at ed t l n) l (λ (d : Data). apdu.Start m d) a (Of kind.Start m a) (λ (d : Data) (g : apdu.Start m d ≡ a). rw (sym g) (record { kind = refl; mode = refl })) e
-rest_of ed t l kind.Send m n a e = by_data (send_at ed t l n) l (λ (d : Data). apdu.Send d) a (Of kind.Send m a) (λ (d : Data) (g : apdu.Send d ≡ a). rw (sym g) (record { kind = refl; mode = refl })) e
-rest_of ed t l kind.Forward m n a e = by_forward (forward_at ed l n) l (λ (f : Forward). apdu.Forward f) a (Of kind.Forward m a) (λ (f : Forward) (g : apdu.Forward f ≡ a). rw (sym g) (record { kind = refl; mode = refl })) e
-rest_of ed t l kind.ForwardResponse m n a e = by_field (extensible_index l n response_last) l (λ (r : ℕ). apdu.ForwardResponse r) a (Of kind.ForwardResponse m a) (λ (r : ℕ) (g : apdu.ForwardResponse r ≡ a). rw (sym g) (record { kind = refl; mode = refl })) e
+rest_of ed t l kind.AbortUser m n a e = by_reading (extensible_index l n (user_last ed)) l (λ (r : ℕ). apdu.AbortUser r) a (Of kind.AbortUser m a) (λ (r : ℕ) (g : apdu.AbortUser r ≡ a). rw (sym g) (record { kind = refl; mode = refl })) e
+rest_of ed t l kind.AbortProvider m n a e = by_reading (extensible_index l n provider_last) l (λ (r : ℕ). apdu.AbortProvider r) a (Of kind.AbortProvider m a) (λ (r : ℕ) (g : apdu.AbortProvider r ≡ a). rw (sym g) (record { kind = refl; mode = refl })) e
+rest_of ed t l kind.Start m n a e = by_reading (start_at ed t l n) l (λ (d : Data). apdu.Start m d) a (Of kind.Start m a) (λ (d : Data) (g : apdu.Start m d ≡ a). rw (sym g) (record { kind = refl; mode = refl })) e
+rest_of ed t l kind.Send m n a e = by_reading (send_at ed t l n) l (λ (d : Data). apdu.Send d) a (Of kind.Send m a) (λ (d : Data) (g : apdu.Send d ≡ a). rw (sym g) (record { kind = refl; mode = refl })) e
+rest_of ed t l kind.Forward m n a e = by_reading (forward_at ed l n) l (λ (f : Forward). apdu.Forward f) a (Of kind.Forward m a) (λ (f : Forward) (g : apdu.Forward f ≡ a). rw (sym g) (record { kind = refl; mode = refl })) e
+rest_of ed t l kind.ForwardResponse m n a e = by_reading (extensible_index l n response_last) l (λ (r : ℕ). apdu.ForwardResponse r) a (Of kind.ForwardResponse m a) (λ (r : ℕ) (g : apdu.ForwardResponse r ≡ a). rw (sym g) (record { kind = refl; mode = refl })) e
 
-leads : (ed : Edition) (t : PduType) (l : List ℕ) (a : Apdu) → apdu_at ed t l ≡ decoded.Is a → Leads (leading_at t l 0) a
+leads : (ed : Edition) (t : PduType) (l : List ℕ) (a : Apdu) → apdu_at ed t l ≡ Ok a → Leads (leading_at t l 0) a
 unfolding apdu_at
 leads ed t l a e = led_accepted (rest_at ed t l) t l 0 a
-    (λ (c : Kind) (m n : ℕ) (k : rest_at ed t l c m n ≡ decoded.Is a). rest_of ed t l c m n a k) e
+    (λ (c : Kind) (m n : ℕ) (k : rest_at ed t l c m n ≡ Ok a). rest_of ed t l c m n a k) e
 
-lead_refused : (ed : Edition) (t : PduType) (l : List ℕ) (r : Refusal) → leading_at t l 0 ≡ lead.Refused r
-    → apdu_at ed t l ≡ decoded.Refused r
+lead_refused : (ed : Edition) (t : PduType) (l : List ℕ) (r : Refusal) → leading_at t l 0 ≡ Err r
+    → apdu_at ed t l ≡ Err r
 unfolding apdu_at
 lead_refused ed t l r e = rw e
 
@@ -64,12 +61,12 @@ refused_same : (ed : Edition) (pdus : PduType) (l : List ℕ) → (refusal_in (l
 unfolding lead_number apdu_answer
 refused_same ed pdus l n = by (leading_at pdus l 0) refl n
   where
-    by : (t : Lead) → leading_at pdus l 0 ≡ t → (refusal_in (lead_number t) ≡ 0 → ⊥) → apdu_answer ed (apdu_at ed pdus l) ≡ lead_number t
-    by (lead.Is k m next) e n = absurd (n (omega arith))
-    by (lead.Refused r) e n = ap (apdu_answer ed) (lead_refused ed pdus l r e)
+    by : (t : Reading (Kind × ℕ)) → leading_at pdus l 0 ≡ t → (refusal_in (lead_number t) ≡ 0 → ⊥) → apdu_answer ed (apdu_at ed pdus l) ≡ lead_number t
+    by (Ok ((k, m), next)) e n = absurd (n (omega arith))
+    by (Err r) e n = ap (apdu_answer ed) (lead_refused ed pdus l r e)
 
 -- an APDU that was read
-apdu_same : (ed : Edition) (a : Apdu) (n : ℕ) → SameLead (lead_number (lead.Is (kind_in a) (mode_of a) n)) (apdu_number ed a)
+apdu_same : (ed : Edition) (a : Apdu) (n : ℕ) → SameLead (lead_number (Ok ((kind_in a, mode_of a), n))) (apdu_number ed a)
 unfolding lead_number apdu_number
 apdu_same ed (apdu.AbortUser r) n = record { tag = omega arith; mode = λ (e : tag_in (apdu_number ed (apdu.AbortUser r)) ≡ 2). omega arith; none = λ (e : tag_in (apdu_number ed (apdu.AbortUser r)) ≡ 2 → ⊥). omega arith }
 apdu_same ed (apdu.AbortProvider r) n = record { tag = omega arith; mode = λ (e : tag_in (apdu_number ed (apdu.AbortProvider r)) ≡ 2). omega arith; none = λ (e : tag_in (apdu_number ed (apdu.AbortProvider r)) ≡ 2 → ⊥). omega arith }
@@ -95,12 +92,12 @@ accepted_same : (ed : Edition) (pdus : PduType) (l : List ℕ) → refusal_in (a
 unfolding apdu_answer packed
 accepted_same ed pdus l z = by (apdu_at ed pdus l) refl z
   where
-    by : (t : Decoded) → apdu_at ed pdus l ≡ t → refusal_in (apdu_answer ed t) ≡ 0
+    by : (t : Result Apdu Refusal) → apdu_at ed pdus l ≡ t → refusal_in (apdu_answer ed t) ≡ 0
         → SameLead (lead_number (leading_at pdus l 0)) (apdu_answer ed t)
-    by (decoded.Is a) e z =
+    by (Ok a) e z =
         let o = leads ed pdus l a e in
-        subst (λ (t : Lead). SameLead (lead_number t) (apdu_number ed a)) (sym o.says) (apdu_same ed a o.next)
-    by (decoded.Refused r) e z = absurd (fault_counts r.fault (r.at % 72057594037927936) z)
+        subst (λ (t : Reading (Kind × ℕ)). SameLead (lead_number t) (apdu_number ed a)) (sym o.says) (apdu_same ed a o.next)
+    by (Err r) e z = absurd (fault_counts r.fault (r.at % 72057594037927936) z)
 
 -- ---- the two calls
 

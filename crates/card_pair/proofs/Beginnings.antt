@@ -11,8 +11,6 @@ use lib.ListN.{length, get_or}
 use Rattle.words.proofs.Laws.{both_left, both_right}
 use Rattle.bits.specs.Bits.{bits_to}
 use Rattle.bits.specs.Read.{read_bits}
-use Rattle.bits.specs.declared.Read.{Read}
-use Rattle.bits.specs.declared.Read.TheVariants.{Number, Short}
 use Rattle.bits.proofs.Bytes.{bits_to_is}
 use Rattle.bits.proofs.Reading.{number_lt}
 use Rattle.editions.specs.Editions.{type_of, is_type, edition_of}
@@ -22,30 +20,29 @@ use Rattle.machine.specs.Codes.{security_values, versions}
 use Rattle.machine.specs.Record.{fresh_record}
 use Rattle.machine.specs.declared.record.Configuration.{Configuration}
 use Rattle.control.specs.Control.{waits, awaits_response}
-use Rattle.machine.specs.Run.{Formed}
 use Rattle.machine.specs.declared.record.Record.{Record}
-use Rattle.stored.specs.Stored.{record_bytes, record_bits, job_bit, job_bits, number_bit, number_bits, side_code, version_fits, head_fits, head_of, with_numbers, load_at, store_at}
-use Rattle.stored.specs.declared.Loaded.{Loaded}
-use Rattle.stored.specs.declared.Loaded.TheVariants.{Is, NoRecord}
+use Rattle.stored.specs.Stored.{record_bytes, record_bits, job_bit, job_bits, number_bit, number_bits, side_code, version_fits, head_fits, head_of, with_numbers, load_at, store_at, is_stored}
 use Rattle.step.proofs.Taken.{never, Coded}
 use Rattle.card.specs.Face.{first_number, configured, fresh_for, fresh_call}
-use Rattle.pair.specs.Names.{Side, Air, Ground, StartReq, Control, is, is_idle, closed}
-use Rattle.pair.proofs.Finite.{is_t, T_is}
+use Rattle.pair.specs.Names.{Side, Air, Ground, StartReq, Control, is, is_idle}
+use Rattle.pair.proofs.Finite.{is_t}
 use Rattle.pair.proofs.StepLocal.{Local, closed_is_idle}
 use Rattle.card_pair.specs.Promise.{Begins, Stands}
 use Rattle.card_pair.proofs.Ends.{number_in, Keeps, stored_keeps}
+use Rattle.std.specs.Prelude.{None, Option, Some}
+use Rattle.stored.specs.declared.Stored.{Stored}
 
 -- ---- what is loaded is coded
 
-abbrev is_record : Loaded → Bool
-is_record (Is sd r n) = true
-is_record NoRecord = false
+abbrev is_record : Option Stored → Bool
+is_record (Some z) = true
+is_record None = false
 
-abbrev record_in : Loaded → Record → Record
-record_in (Is sd r n) q = r
-record_in NoRecord q = q
+abbrev record_in : Option Stored → Record → Record
+record_in (Some z) q = z.machine
+record_in None q = q
 
-by_test : (t : Bool) (x : Loaded) (sd : Side) (r : Record) (n : ℕ) → cond t x NoRecord ≡ Is sd r n → (t ≡ true) × (x ≡ Is sd r n)
+by_test : (t : Bool) (x : Option Stored) (sd : Side) (r : Record) (n : ℕ) → cond t x None ≡ is_stored sd r n → (t ≡ true) × (x ≡ is_stored sd r n)
 by_test true x sd r n e = (refl, e)
 by_test false x sd r n e = never (ap is_record e)
 
@@ -58,11 +55,11 @@ record Loads (r : Record) (n : ℕ) : Type 0 where
 abbrev before : List ℕ → Bool
 before b = leb 1 (get_or b 0 0) && leb (get_or b 0 0) 4 && ltb (get_or b 1 0) 6 && ltb (get_or b 2 0) 2 && ltb (get_or b 3 0) 2 && ltb (get_or b 4 0) 2
 
-number_coded : (b : List ℕ) (x y : Read) (sd : Side) (r : Record) (n : ℕ)
+number_coded : (b : List ℕ) (x y : Option (ℕ × ℕ)) (sd : Side) (r : Record) (n : ℕ)
     → read_bits (bits_to b record_bits) job_bit job_bits ≡ x → read_bits (bits_to b record_bits) number_bit number_bits ≡ y
-    → head_of b ≡ true → with_numbers b x y ≡ Is sd r n → Loads r n
+    → head_of b ≡ true → with_numbers b x y ≡ is_stored sd r n → Loads r n
 unfolding with_numbers head_fits
-number_coded b (Number h next) (Number m last) sd r n e g t f =
+number_coded b (Some (h, next)) (Some (m, last)) sd r n e g t f =
     let k = both_left
     (before b && ltb (get_or b 5 0) security_values && ltb (get_or b 6 0) security_values && ltb (get_or b 7 0) 2)
     (version_fits (get_or b 8 0)) t in
@@ -72,7 +69,7 @@ number_coded b (Number h next) (Number m last) sd r n e g t f =
     let p = both_left (before b && ltb (get_or b 5 0) security_values && ltb (get_or b 6 0) security_values) (ltb (get_or b 7 0) 2) k in
     let q = both_left (before b && ltb (get_or b 5 0) security_values) (ltb (get_or b 6 0) security_values) p in
     record {
-      coded = subst Coded (ap (λ (z : Loaded). record_in z r) f)
+      coded = subst Coded (ap (λ (z : Option Stored). record_in z r) f)
           (record {
             request = ltb-true (get_or b 5 0) security_values (both_right (before b) (ltb (get_or b 5 0) security_values) q);
             policy = ltb-true (get_or b 6 0) security_values
@@ -84,10 +81,10 @@ number_coded b (Number h next) (Number m last) sd r n e g t f =
       low = subst (λ (k : ℕ). k < 2 ^ 64) (ap number_in f)
           (number_lt (bits_to b record_bits) number_bit number_bits m last (bits_to_is b record_bits) g);
     }
-number_coded b (Number h next) Short sd r n e g t f = never (ap is_record f)
-number_coded b Short y sd r n e g t f = never (ap is_record f)
+number_coded b (Some (h, next)) None sd r n e g t f = never (ap is_record f)
+number_coded b None y sd r n e g t f = never (ap is_record f)
 
-pub loaded_keeps : (b : List ℕ) (sd : Side) (r : Record) (n : ℕ) → load_at b ≡ Is sd r n
+pub loaded_keeps : (b : List ℕ) (sd : Side) (r : Record) (n : ℕ) → load_at b ≡ is_stored sd r n
     → awaits_response r.control ≡ false → Keeps r.edition sd b r n
 unfolding load_at
 loaded_keeps b sd r n e w =
@@ -138,7 +135,7 @@ module _ (p : ℕ) (ed : Edition) (sd : Side) (b : List ℕ) (h : Begins p ed sd
 
 stored_load : (g : Configuration) (sd : Side) (r : List ℕ) → g.policy < security_values → 1 ≤ g.version
     → g.version < versions → length r ≡ record_bytes
-    → load_at (store_at r sd (fresh_record g) first_number).bytes ≡ Is sd (fresh_record g) first_number
+    → load_at (store_at r sd (fresh_record g) first_number).bytes ≡ is_stored sd (fresh_record g) first_number
 stored_load g sd r v l m h = (stored_keeps g.edition sd r (fresh_record g) first_number h (record { request = omega arith; policy = v; least = l; most = m; highest = omega arith }) (omega arith) refl refl).load
 
 is_type_is : (ed : Edition) → is_type (type_of ed) ≡ true

@@ -13,8 +13,6 @@ use Rattle.apdu.specs.Sizes.{all_bits, bit}
 use Rattle.apdu.specs.Pdus.{lent, part_in, content_in}
 use Rattle.apdu.specs.Writing.{items_fit, part_fits, data_fits}
 use Rattle.pdus.specs.declared.PduType.{PduType}
-use Rattle.apdu.specs.declared.Part.{Part}
-use Rattle.apdu.specs.declared.Part.TheVariants as part
 use Rattle.apdu.specs.declared.Data.{Data}
 use Rattle.editions.specs.Editions.{spares}
 use Rattle.editions.specs.declared.Edition.{Edition}
@@ -33,7 +31,7 @@ use Rattle.machine.specs.declared.event.UserPrimitive.TheVariants.{StartServiceR
 use Rattle.machine.specs.declared.event.Event.{Event}
 use Rattle.machine.specs.declared.event.Event.TheVariants.{User}
 use Rattle.machine.specs.declared.outcome.Invoked.{Invoked}
-use Rattle.machine.specs.declared.outcome.Invoked.TheVariants.{Silent, DStartRequest, DStartResponse, DDataRequest, DEndRequest, DEndResponse, DAbortRequest, DStartForwardRequest, DStartForwardResponse}
+use Rattle.machine.specs.declared.outcome.Invoked.TheVariants.{DStartRequest, DStartResponse, DDataRequest, DEndRequest, DEndResponse, DAbortRequest, DStartForwardRequest, DStartForwardResponse}
 use Rattle.machine.specs.declared.outcome.Outcome.{Outcome}
 use Rattle.numbered.specs.Numbers.{held_after, numbered_step}
 use Rattle.stored.specs.Stored.{load_at}
@@ -56,6 +54,8 @@ use Rattle.card_pair.specs.CardMachine.{Buffers, Kept, Given, Asked, start_reque
 use Rattle.card_pair.proofs.Codec.{fits, enc, card_codec}
 use Rattle.card_pair.proofs.Ends.{Keeps, concluded_refused}
 use Rattle.card_pair.proofs.Entries.{KeepsAt, Carries, sent_plain, sent_message, fits_y, entry_is, taken_rel, bodied, ended, happens_rel}
+use Rattle.std.specs.Prelude.{None, Option, Some}
+use Rattle.pdus.specs.declared.Span.{Span}
 
 -- ---- the record is loaded, the message data are looked at, the step is taken
 
@@ -85,16 +85,16 @@ none_given Protected t li lm lc = none_fits li lm lc
 none_given Plain t li lm lc = rw (none_fits li lm lc)
 
 -- a user primitive invokes a primitive
-user_writable : (ed : Edition) (sd : Side) (i : Invoked) (a : UserData) → GoesOut ed true sd i a → writable ed sd a ≡ true
-user_writable ed sd Silent a g = absurd (subst T g.0 tt)
-user_writable ed sd (DStartRequest q s) a g = g
-user_writable ed sd (DStartResponse x s) a g = g
-user_writable ed sd DDataRequest a g = g
-user_writable ed sd DEndRequest a g = g
-user_writable ed sd (DEndResponse x) a g = g
-user_writable ed sd (DAbortRequest o) a g = g
-user_writable ed sd (DStartForwardRequest q s v) a g = absurd g
-user_writable ed sd (DStartForwardResponse s v) a g = absurd g
+user_writable : (ed : Edition) (sd : Side) (i : Option Invoked) (a : UserData) → GoesOut ed true sd i a → writable ed sd a ≡ true
+user_writable ed sd None a g = absurd (subst T g.0 tt)
+user_writable ed sd (Some (DStartRequest q s)) a g = g
+user_writable ed sd (Some (DStartResponse x s)) a g = g
+user_writable ed sd (Some DDataRequest) a g = g
+user_writable ed sd (Some DEndRequest) a g = g
+user_writable ed sd (Some (DEndResponse x)) a g = g
+user_writable ed sd (Some (DAbortRequest o)) a g = g
+user_writable ed sd (Some (DStartForwardRequest q s v)) a g = absurd g
+user_writable ed sd (Some (DStartForwardResponse s v)) a g = absurd g
 
 -- every user primitive is one to `brings`
 by_user : (ed : Edition) (u : UserPrimitive) → (brings ed (User u)).user ≡ true
@@ -144,7 +144,7 @@ module _ (p n : ℕ) (r : List ℕ) (w : Buffers) (sd : Side) (q : Record) (h : 
   Follow o = Follows (KeepsAt ed sd) (Carries ed sd) o (mark h q) ((step_numbered (card_codec ed) p).at.call sd (mark h q))
 
   abbrev pub Sends : Type 0
-  Sends = (c : Called) (m : ℕ) (i : Invoked) (z : UserData) (ys : List ℕ) → (entry_of c).primitive ≡ i → GoesOut ed true sd i z → is_ddata i ≡ (brings ed (User u)).message → (writable ed sd z ≡ true → Carries ed sd (marked_entry c) (mark m (record { primitive = i; bytes = ys }))) → SentRel (Carries ed sd) (s c) (tag m (sent_by i ys (data_of a) (job_of a)))
+  Sends = (c : Called) (m : ℕ) (i : Option Invoked) (z : UserData) (ys : List ℕ) → (entry_of c).primitive ≡ i → GoesOut ed true sd i z → is_ddata i ≡ (brings ed (User u)).message → (writable ed sd z ≡ true → Carries ed sd (marked_entry c) (mark m (record { primitive = i; bytes = ys }))) → SentRel (Carries ed sd) (s c) (tag m (sent_by i ys (data_of a) (job_of a)))
 
   pub asked_rel : JobLow sd (User u) → (Shaped → asked (card_codec ed) p a ≡ u)
       → (Shaped → data_of a ≡ cond (brings ed (User u)).body B [])
@@ -209,10 +209,10 @@ given_message : (n m k : ℕ) → is_given (given_data n m k).message ≡ not (e
 unfolding given_data
 given_message n m k = part_given (eqb m no_count) m
 
-part_there : (l : List ℕ) (unit : ℕ) (p : Part) → is_there (part_in l unit p) ≡ is_given p
+part_there : (l : List ℕ) (unit : ℕ) (p : Option Span) → is_there (part_in l unit p) ≡ is_given p
 unfolding part_in
-part_there l unit part.Absent = refl
-part_there l unit (part.Given x) = refl
+part_there l unit None = refl
+part_there l unit (Some x) = refl
 
 content_there : (li lm lc : List ℕ) (d : Data) → is_there (content_in li lm lc d).message ≡ is_given d.message
 unfolding content_in

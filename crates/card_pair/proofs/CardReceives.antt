@@ -17,8 +17,6 @@ use Rattle.apdu.specs.Writing.{data_fits}
 use Rattle.pdus.specs.declared.PduType.{PduType}
 use Rattle.pdus.specs.declared.PduType.TheVariants as pdu
 use Rattle.apdu.specs.declared.Apdu.TheVariants as is
-use Rattle.apdu.specs.declared.Decoded.{Decoded}
-use Rattle.apdu.specs.declared.Decoded.TheVariants as decoded
 use Rattle.editions.specs.declared.Edition.{Edition}
 use Rattle.codec.specs.Codec.{content_bits, apdu_fits, apdu_at}
 use Rattle.codec.proofs.Instance.{laws}
@@ -30,7 +28,7 @@ use Rattle.machine.specs.declared.event.UserData.TheVariants.{Absent}
 use Rattle.machine.specs.declared.event.ServicePrimitive.{ServicePrimitive}
 use Rattle.machine.specs.declared.event.Event.TheVariants.{Service}
 use Rattle.machine.specs.declared.outcome.Invoked.{Invoked}
-use Rattle.machine.specs.declared.outcome.Invoked.TheVariants.{Silent, DStartRequest, DStartResponse, DDataRequest, DEndRequest, DEndResponse, DAbortRequest, DStartForwardRequest, DStartForwardResponse}
+use Rattle.machine.specs.declared.outcome.Invoked.TheVariants.{DStartRequest, DStartResponse, DDataRequest, DEndRequest, DEndResponse, DAbortRequest, DStartForwardRequest, DStartForwardResponse}
 use Rattle.machine.specs.declared.outcome.Outcome.{Outcome}
 use Rattle.numbered.specs.Numbers.{numbered_step}
 use Rattle.step.specs.Call.{Called, pdus_of, no_data, carries_data, carried_by, reads_as, reads_again, or_abort, read_pdu, meaning, data_of, event_step, data_step, bare_step, service_step, service_call, service_by}
@@ -47,81 +45,84 @@ use Rattle.card_pair.proofs.Codec.{read_of, dec, is_read, card_codec}
 use Rattle.card_pair.proofs.Ends.{number_in, Keeps}
 use Rattle.card_pair.proofs.Entries.{readable, KeepsAt, Carries, happens_rel}
 use Rattle.card_pair.proofs.CardCalls.{entered, itself, none_fits}
+use Rattle.std.specs.Prelude.{Err, Ok, Result, None, Option, Some}
+use Rattle.fields.specs.declared.Refusal.{Refusal}
+use Rattle.apdu.specs.declared.Apdu.{Apdu}
 
 -- ---- one reading is enough
 
-or_first : (x y : Decoded) → is_read x ≡ true → or_abort x y ≡ x
+or_first : (x y : Result Apdu Refusal) → is_read x ≡ true → or_abort x y ≡ x
 unfolding or_abort
-or_first (decoded.Is a) y e = refl
-or_first (decoded.Refused r) y e = never e
+or_first (Ok a) y e = refl
+or_first (Err r) y e = never e
 
 -- a D-ABORT of a provider
-again : (b : Bool) (x y : Decoded) → is_read x ≡ true → cond b (or_abort x y) x ≡ x
+again : (b : Bool) (x y : Result Apdu Refusal) → is_read x ≡ true → cond b (or_abort x y) x ≡ x
 again true x y e = or_first x y e
 again false x y e = refl
 
-pub reads_once : (ed : Edition) (sd : Side) (c : Control) (i : Invoked) (l : List ℕ) → awaits_response c ≡ false
+pub reads_once : (ed : Edition) (sd : Side) (c : Control) (i : Option Invoked) (l : List ℕ) → awaits_response c ≡ false
     → is_dialogue i ≡ true → is_read (apdu_at ed (pdus_of (other sd)) l) ≡ true
     → read_pdu ed sd c (arrives sd i) l ≡ apdu_at ed (pdus_of (other sd)) l
 unfolding read_pdu reads_as reads_again
 reads_once ed Air c i l w d e = refl
-reads_once ed Ground c Silent l w d e = refl
-reads_once ed Ground c (DStartRequest q s) l w d e = refl
-reads_once ed Ground c (DStartResponse x s) l w d e = ap (λ (b : Bool). apdu_at ed (cond b pdu.GroundPdus pdu.AircraftPdus) l) w
-reads_once ed Ground c DDataRequest l w d e = refl
-reads_once ed Ground c DEndRequest l w d e = refl
-reads_once ed Ground c (DEndResponse x) l w d e = refl
-reads_once ed Ground c (DAbortRequest o) l w d e = again (eqb o provider) (apdu_at ed pdu.AircraftPdus l) (apdu_at ed pdu.GroundPdus l) e
-reads_once ed Ground c (DStartForwardRequest q s v) l w d e = never d
-reads_once ed Ground c (DStartForwardResponse s v) l w d e = never d
+reads_once ed Ground c None l w d e = refl
+reads_once ed Ground c (Some (DStartRequest q s)) l w d e = refl
+reads_once ed Ground c (Some (DStartResponse x s)) l w d e = ap (λ (b : Bool). apdu_at ed (cond b pdu.GroundPdus pdu.AircraftPdus) l) w
+reads_once ed Ground c (Some DDataRequest) l w d e = refl
+reads_once ed Ground c (Some DEndRequest) l w d e = refl
+reads_once ed Ground c (Some (DEndResponse x)) l w d e = refl
+reads_once ed Ground c (Some (DAbortRequest o)) l w d e = again (eqb o provider) (apdu_at ed pdu.AircraftPdus l) (apdu_at ed pdu.GroundPdus l) e
+reads_once ed Ground c (Some (DStartForwardRequest q s v)) l w d e = never d
+reads_once ed Ground c (Some (DStartForwardResponse s v)) l w d e = never d
 
 -- what the other end of a dialogue sends is no start of a centre
-arrives_low : (sd : Side) (i : Invoked) (a : UserData) → is_dialogue i ≡ true → JobLow sd (Service (arrives sd i) a)
-arrives_low sd Silent a d = tt
-arrives_low Air (DStartRequest q s) a d = refl
-arrives_low Ground (DStartRequest q s) a d = refl
-arrives_low sd (DStartResponse x s) a d = tt
-arrives_low sd DDataRequest a d = tt
-arrives_low sd DEndRequest a d = tt
-arrives_low sd (DEndResponse x) a d = tt
-arrives_low sd (DAbortRequest o) a d = tt
-arrives_low sd (DStartForwardRequest q s v) a d = never d
-arrives_low sd (DStartForwardResponse s v) a d = tt
+arrives_low : (sd : Side) (i : Option Invoked) (a : UserData) → is_dialogue i ≡ true → JobLow sd (Service (arrives sd i) a)
+arrives_low sd None a d = tt
+arrives_low Air (Some (DStartRequest q s)) a d = refl
+arrives_low Ground (Some (DStartRequest q s)) a d = refl
+arrives_low sd (Some (DStartResponse x s)) a d = tt
+arrives_low sd (Some DDataRequest) a d = tt
+arrives_low sd (Some DEndRequest) a d = tt
+arrives_low sd (Some (DEndResponse x)) a d = tt
+arrives_low sd (Some (DAbortRequest o)) a d = tt
+arrives_low sd (Some (DStartForwardRequest q s v)) a d = never d
+arrives_low sd (Some (DStartForwardResponse s v)) a d = tt
 
 -- ---- the APDU and its message data
 
-apdu_same : (ed : Edition) (l : List ℕ) (x : Decoded) → meaning x ≡ apdu_of (read_of ed l x)
+apdu_same : (ed : Edition) (l : List ℕ) (x : Result Apdu Refusal) → meaning x ≡ apdu_of (read_of ed l x)
 unfolding meaning pdu_in
-apdu_same ed l (decoded.Refused r) = refl
-apdu_same ed l (decoded.Is (is.AbortUser r)) = refl
-apdu_same ed l (decoded.Is (is.AbortProvider r)) = refl
-apdu_same ed l (decoded.Is (is.Start m d)) = refl
-apdu_same ed l (decoded.Is (is.Send d)) = refl
-apdu_same ed l (decoded.Is (is.Forward f)) = refl
-apdu_same ed l (decoded.Is (is.ForwardResponse y)) = refl
+apdu_same ed l (Err r) = refl
+apdu_same ed l (Ok (is.AbortUser r)) = refl
+apdu_same ed l (Ok (is.AbortProvider r)) = refl
+apdu_same ed l (Ok (is.Start m d)) = refl
+apdu_same ed l (Ok (is.Send d)) = refl
+apdu_same ed l (Ok (is.Forward f)) = refl
+apdu_same ed l (Ok (is.ForwardResponse y)) = refl
 
-body_same : (ed : Edition) (l : List ℕ) (x : Decoded) → is_send (meaning x) ≡ true
+body_same : (ed : Edition) (l : List ℕ) (x : Result Apdu Refusal) → is_send (meaning x) ≡ true
     → content_bits ed (content_in l l l (data_of x)) ≡ body_of (read_of ed l x)
 unfolding meaning data_of pdu_in
-body_same ed l (decoded.Refused r) e = never e
-body_same ed l (decoded.Is (is.AbortUser r)) e = never e
-body_same ed l (decoded.Is (is.AbortProvider r)) e = never e
-body_same ed l (decoded.Is (is.Start m d)) e = never e
-body_same ed l (decoded.Is (is.Send d)) e = refl
-body_same ed l (decoded.Is (is.Forward f)) e = never e
-body_same ed l (decoded.Is (is.ForwardResponse y)) e = never e
+body_same ed l (Err r) e = never e
+body_same ed l (Ok (is.AbortUser r)) e = never e
+body_same ed l (Ok (is.AbortProvider r)) e = never e
+body_same ed l (Ok (is.Start m d)) e = never e
+body_same ed l (Ok (is.Send d)) e = refl
+body_same ed l (Ok (is.Forward f)) e = never e
+body_same ed l (Ok (is.ForwardResponse y)) e = never e
 
 -- message data that were read are within the sizes
-data_fits_is : (ed : Edition) (pdus : PduType) (l : List ℕ) → Bits l → (x : Decoded) → apdu_at ed pdus l ≡ x → data_fits l l l (data_of x) ≡ true
+data_fits_is : (ed : Edition) (pdus : PduType) (l : List ℕ) → Bits l → (x : Result Apdu Refusal) → apdu_at ed pdus l ≡ x → data_fits l l l (data_of x) ≡ true
 unfolding data_of apdu_fits
-data_fits_is ed pdus l b (decoded.Refused r) e = none_fits l l l
-data_fits_is ed pdus l b (decoded.Is (is.AbortUser r)) e = none_fits l l l
-data_fits_is ed pdus l b (decoded.Is (is.AbortProvider r)) e = none_fits l l l
-data_fits_is ed pdus l b (decoded.Is (is.Start m d)) e = both_right (mode_fits pdus m) (data_fits l l l d)
+data_fits_is ed pdus l b (Err r) e = none_fits l l l
+data_fits_is ed pdus l b (Ok (is.AbortUser r)) e = none_fits l l l
+data_fits_is ed pdus l b (Ok (is.AbortProvider r)) e = none_fits l l l
+data_fits_is ed pdus l b (Ok (is.Start m d)) e = both_right (mode_fits pdus m) (data_fits l l l d)
     ((laws ed).accepted pdus l (is.Start m d) b e).placed_fits
-data_fits_is ed pdus l b (decoded.Is (is.Send d)) e = ((laws ed).accepted pdus l (is.Send d) b e).placed_fits
-data_fits_is ed pdus l b (decoded.Is (is.Forward f)) e = none_fits l l l
-data_fits_is ed pdus l b (decoded.Is (is.ForwardResponse y)) e = none_fits l l l
+data_fits_is ed pdus l b (Ok (is.Send d)) e = ((laws ed).accepted pdus l (is.Send d) b e).placed_fits
+data_fits_is ed pdus l b (Ok (is.Forward f)) e = none_fits l l l
+data_fits_is ed pdus l b (Ok (is.ForwardResponse y)) e = none_fits l l l
 
 -- ---- equal bits
 
@@ -157,10 +158,10 @@ module _ (n : ℕ) (r : List ℕ) (w : Buffers) (sd : Side) (q : Record) (h : �
       (numberedly sd (mark h q) (Service p a) v (λ (o : Outcome). happens (card_codec at) sd o x))
 
   -- the call when the user data in the bits l is read as x
-  abbrev Read_as : Invoked → ℕ → List ℕ → Decoded → Called
+  abbrev Read_as : Option Invoked → ℕ → List ℕ → Result Apdu Refusal → Called
   Read_as i v l x = event_step numbered_step r w.first w.second (Service (arrives sd i) (meaning x)) v l l l (carried_by x) sd q h
 
-  reading : (i : Invoked) (v : ℕ) (l : List ℕ) (x : Decoded) → is_dialogue i ≡ true → v < 2 ^ 64 → Bits l
+  reading : (i : Option Invoked) (v : ℕ) (l : List ℕ) (x : Result Apdu Refusal) → is_dialogue i ≡ true → v < 2 ^ 64 → Bits l
       → data_fits l l l (data_of x) ≡ true
       → Does (Read_as i v l x) (arrives sd i) v (apdu_of (read_of at l x)) (body_of (read_of at l x))
   reading i v l x z lv b sh =
@@ -170,17 +171,17 @@ module _ (n : ℕ) (r : List ℕ) (w : Buffers) (sd : Side) (q : Record) (h : �
       (body_same at l x))
 
   -- as the other side wrote it
-  abbrev heard : List ℕ → Decoded
+  abbrev heard : List ℕ → Result Apdu Refusal
   heard l = apdu_at at (pdus_of (other sd)) l
 
-  received : (i : Invoked) (v : ℕ) (s : List ℕ) → is_dialogue i ≡ true → v < 2 ^ 64 → is_read (heard (lent s)) ≡ true
+  received : (i : Option Invoked) (v : ℕ) (s : List ℕ) → is_dialogue i ≡ true → v < 2 ^ 64 → is_read (heard (lent s)) ≡ true
       → Does (service_call r w.first w.second (arrives sd i) v 1 s) (arrives sd i) v (apdu_of (read_of at (lent s) (heard (lent s)))) (body_of (read_of at (lent s) (heard (lent s))))
   unfolding service_by service_step data_step
   received i v s z lv e =
       subst (λ (c : Called). Does c (arrives sd i) v (apdu_of (read_of at (lent s) (heard (lent s))))
       (body_of (read_of at (lent s) (heard (lent s))))) (sym (entered at r w sd q h keeps
       (service_step numbered_step r w.first w.second (arrives sd i) v 1 (lent s))))
-      (subst (λ (x : Decoded). Does (Read_as i v (lent s) x) (arrives sd i) v (apdu_of (read_of at (lent s) (heard (lent s)))) (body_of (read_of at (lent s) (heard (lent s))))) (sym (reads_once at sd q.control i (lent s) keeps.dialogue z e))
+      (subst (λ (x : Result Apdu Refusal). Does (Read_as i v (lent s) x) (arrives sd i) v (apdu_of (read_of at (lent s) (heard (lent s)))) (body_of (read_of at (lent s) (heard (lent s))))) (sym (reads_once at sd q.control i (lent s) keeps.dialogue z e))
       (reading i v (lent s) (heard (lent s)) z lv (bits_to_is s all_bits)
       (data_fits_is at (pdus_of (other sd)) (lent s) (bits_to_is s all_bits) (heard (lent s)) refl)))
 
@@ -196,10 +197,10 @@ module _ (n : ℕ) (r : List ℕ) (w : Buffers) (sd : Side) (q : Record) (h : �
       (λ y. never y) n [] j refl refl refl (λ g. never g))
 
   -- either way
-  abbrev Does_as : Called → Invoked → ℕ → Read → Type 0
+  abbrev Does_as : Called → Option Invoked → ℕ → Read → Type 0
   Does_as c i v z = Does c (arrives sd i) v (apdu_of z) (body_of z)
 
-  taken_over : (i : Invoked) (v : ℕ) (s : List ℕ) → is_dialogue i ≡ true → v < 2 ^ 64 → readable at (other sd) s ≡ true
+  taken_over : (i : Option Invoked) (v : ℕ) (s : List ℕ) → is_dialogue i ≡ true → v < 2 ^ 64 → readable at (other sd) s ≡ true
       → Does_as (service_call r w.first w.second (arrives sd i) v (given_of s) s) i v (dec at (other sd) s)
   taken_over i v [] z lv e = bare_rel (arrives sd i) v (arrives_low sd i Absent z) lv
   taken_over i v (x ∷ s) z lv e = received i v (x ∷ s) z lv e
@@ -211,9 +212,9 @@ module _ (n : ℕ) (r : List ℕ) (w : Buffers) (sd : Side) (q : Record) (h : �
       (given_of e.it.bytes) e.it.bytes) f.it.primitive f.no z)
       (read_alike at (other sd) e.it.bytes f.it.bytes x.bits)
       (subst (λ (v : ℕ). Does_as (service_call r w.first w.second (arrives sd e.it.primitive) e.no (given_of e.it.bytes) e.it.bytes) f.it.primitive v (dec at (other sd) e.it.bytes)) x.number
-      (subst (λ (i : Invoked). Does_as (service_call r w.first w.second (arrives sd e.it.primitive) e.no (given_of e.it.bytes) e.it.bytes) i e.no (dec at (other sd) e.it.bytes)) x.primitive
+      (subst (λ (i : Option Invoked). Does_as (service_call r w.first w.second (arrives sd e.it.primitive) e.no (given_of e.it.bytes) e.it.bytes) i e.no (dec at (other sd) e.it.bytes)) x.primitive
       (taken_over e.it.primitive e.no e.it.bytes
-      (subst (λ (i : Invoked). is_dialogue i ≡ true) (sym x.primitive) x.dialogue)
+      (subst (λ (i : Option Invoked). is_dialogue i ≡ true) (sym x.primitive) x.dialogue)
       (subst (λ (v : ℕ). v < 2 ^ 64) (sym x.number) x.low)
       (readable_alike at (other sd) e.it.bytes f.it.bytes x.bits ∙ x.read))))
 

@@ -14,9 +14,8 @@ use Rattle.apdu.specs.Pdus.{lent}
 use Rattle.pdus.specs.declared.PduType.TheVariants as pdu
 use Rattle.apdu.specs.declared.Data.{Data}
 use Rattle.apdu.specs.declared.Apdu.TheVariants as is
-use Rattle.apdu.specs.declared.Decoded.TheVariants as decoded
 use Rattle.codec.specs.Codec.{forward_given_fits, apdu_at}
-use Rattle.machine.specs.Codes.{security_values, forward_results, permanent, no_version, user, undefined_error, communication_service_error, communication_service_failure}
+use Rattle.machine.specs.Codes.{security_values, forward_results, permanent, no_version, undefined_error, communication_service_error, communication_service_failure}
 use Rattle.machine.specs.Record.{with_timer}
 use Rattle.machine.specs.Event.{user_fits, service_fits, event_fits}
 use Rattle.machine.specs.UserData.{user_data_fits}
@@ -42,42 +41,41 @@ use Rattle.machine.specs.declared.event.Event.TheVariants.{Forward as ForwardReq
 use Rattle.machine.specs.declared.outcome.Invoked.{Invoked}
 use Rattle.machine.specs.declared.outcome.Told.TheVariants.{ProviderAbortIndication, ForwardConfirmation}
 use Rattle.machine.specs.declared.outcome.Outcome as O
-use Rattle.numbered.specs.Numbers.{user_starts, service_starts, is_start as isStartEvent, is_service, is_stale, held_after, refusal_of, numbered_step}
+use Rattle.numbered.specs.Numbers.{user_starts, service_starts, is_start as isStartEvent, is_service, is_stale, held_after, numbered_step}
 use Rattle.numbered.proofs.Laws.{then_step}
 use Rattle.packed.specs.Packed.{codes, three, told_number}
 use Rattle.step.specs.Call.{Called, called as calledWith, carries_data, carries_forward, carried_by, no_data, concluded, event_step, user_call, forward_step, forward_by, reads_as, reads_again, read_pdu, meaning}
-use Rattle.stored.specs.declared.Loaded.TheVariants.{Is}
 use Rattle.packed.proofs.Unpacked.{code_unpacked, parameter_unpacked}
 use Rattle.card.specs.Face.{no_count, given_data, message_requested, holds_message}
 use Rattle.pair.specs.Names.{Ground, Control, is_idle, entered, takes}
 use Rattle.pair.specs.Names.{Forward as FORWARD}
-use Rattle.pair.specs.Carrier.{Outcome, begins?, is_start}
+use Rattle.pair.specs.Carrier.{begins?, is_start}
 use Rattle.pair.specs.Numbered.{Numbered}
 use Rattle.pair.specs.Wires.{Wire, sort_of, arrives, rejects}
 use Rattle.pair.proofs.TwoCentres.{Returns, Comes, Refuses}
 use Rattle.card_pair.specs.Answered.{told_part_of}
 use Rattle.card_pair.specs.CardMachine.{Word, Asked, start_request_of, start_response_of, message_request_of, end_request_of, end_response_of, user_abort_of, held_by}
 use Rattle.card_pair.specs.CentreMachine.{Passed, CentreAsked, forward_request_of, other_call, Desk, does, lent_first, lent_second, hears, reports, forwards, centre_asks, centre_machine}
-use Rattle.card_pair.proofs.CentreBytes.{Shut, abort_shut, aborts_shut, at_record, closes_shut, heard_bare, heard_data, heard_stale, held_is, no_number, not_fitting, other_stale, own_number, q, refused_call, reported, shut_comes, shut_returns, told_is, unpermitted, user_refused}
+use Rattle.card_pair.proofs.CentreBytes.{Shut, abort_shut, aborts_shut, at_record, closes_shut, heard_bare, heard_data, heard_stale, held_is, no_number, not_fitting, other_stale, own_number, refused_call, reported, shut_comes, shut_returns, told_is, unpermitted, user_refused}
 use Rattle.card_pair.proofs.CentreEntries.{Away, Confirms, Good, Rest, a_forward, a_response, clash, no_difference}
-use Rattle.card_pair.proofs.CentreRests.{y}
+use Rattle.std.specs.Prelude.{Ok, Option, Some}
 
 -- ---- away
 
 -- what the carrier makes in FORWARD
 turned_in_forward : (r : Record) → r.control ≡ entered FORWARD false
-    → reached Ground r rejects Absent ≡ closes r (tell r (ProviderAbortIndication communication_service_error))
+    → reached Ground r rejects Absent ≡ closes r (tell r (Some (ProviderAbortIndication communication_service_error)))
 unfolding reached first_fault confirmation_fault response_fault answeredBy reply_of
 turned_in_forward r c = rw c
 
 lost_in_forward : (r : Record) → r.control ≡ entered FORWARD false
-    → reached Ground r DPAbortIndication Absent ≡ closes r (tell r (ProviderAbortIndication communication_service_failure))
+    → reached Ground r DPAbortIndication Absent ≡ closes r (tell r (Some (ProviderAbortIndication communication_service_failure)))
 unfolding reached first_fault abort_fault answeredBy instructed
 lost_in_forward r c = rw c
 
 -- a response is read in FORWARD
 reads_response : (ed : Edition) (c : Control) (s z : ℕ) (l : List ℕ) → c ≡ entered FORWARD false
-    → apdu_at ed pdu.GroundPdus l ≡ decoded.Is (is.ForwardResponse z)
+    → apdu_at ed pdu.GroundPdus l ≡ Ok (is.ForwardResponse z)
     → meaning (read_pdu ed Ground c (DStartConfirmation permanent 0 s no_version) l) ≡ ForwardResponse z
 unfolding read_pdu reads_as reads_again meaning
 reads_response ed c s z l f e = rw (f, e)
@@ -158,7 +156,7 @@ module _ (p : ℕ) (ed : Edition) (ver : ℕ) (d : Desk) (h : Away p ed ver d) w
           (aborts_shut rec _ _ h.at.coded)
       go false e t = clash (sym t ∙ unpermitted p ed ver d h.at TimerExpires 0 e)
 
-  error_busy : step Ground rec UnrecoverableSystemError ≡ aborts rec undefined_error (tell rec (ProviderAbortIndication undefined_error))
+  error_busy : step Ground rec UnrecoverableSystemError ≡ aborts rec undefined_error (tell rec (Some (ProviderAbortIndication undefined_error)))
   unfolding step S.refusal_of event_fits permitted message_refusal clause system_error excepts
   error_busy = rw busy
 
@@ -201,7 +199,7 @@ module _ (p : ℕ) (ed : Edition) (ver : ℕ) (d : Desk) (h : Away p ed ver d) w
   abbrev J : ServicePrimitive
   J = DStartConfirmation permanent 0 p no_version
 
-  away_reads : (z : ℕ) (l : List ℕ) → apdu_at ed pdu.GroundPdus l ≡ decoded.Is (is.ForwardResponse z)
+  away_reads : (z : ℕ) (l : List ℕ) → apdu_at ed pdu.GroundPdus l ≡ Ok (is.ForwardResponse z)
       → meaning (read_pdu rec.edition Ground rec.control J l) ≡ ForwardResponse z
   away_reads z l e = reads_response rec.edition rec.control p z l h.control
       (ap (λ (y : Edition). apdu_at y pdu.GroundPdus l) h.at.edition ∙ e)
@@ -218,7 +216,7 @@ module _ (p : ℕ) (ed : Edition) (ver : ℕ) (d : Desk) (h : Away p ed ver d) w
   unfolding forward_confirmed
   confirmed_shut z =
       let k = h.at.coded in
-      let s = closes_shut (with_timer rec false) (ForwardConfirmation z no_version) (record { request = k.request; policy = k.policy; least = k.least; most = k.most; highest = k.highest }) in
+      let s = closes_shut (with_timer rec false) (Some (ForwardConfirmation z no_version)) (record { request = k.request; policy = k.policy; least = k.least; most = k.most; highest = k.highest }) in
       record { taken = s.taken; control = s.control; timer = s.timer; user = s.user; policy = s.policy; version = s.version; edition = s.edition; coded = s.coded; calm = s.calm }
 
   valid_away : p < security_values
@@ -232,12 +230,12 @@ module _ (p : ℕ) (ed : Edition) (ver : ℕ) (d : Desk) (h : Away p ed ver d) w
   -- a property of a call that holds where the answer is told, whatever its result, holds of it
   away_by : (w : Numbered Wire) (P : Called → Type 0) → Good p ed ver w → is_start (centre_machine p).at w ≡ false
       → w.no ≡ held_by d.kept.bytes
-      → ((z : ℕ) → ltb z forward_results ≡ true → apdu_at ed pdu.GroundPdus (lent w.it.bytes) ≡ decoded.Is (is.ForwardResponse z) → P (Confirmed w z))
+      → ((z : ℕ) → ltb z forward_results ≡ true → apdu_at ed pdu.GroundPdus (lent w.it.bytes) ≡ Ok (is.ForwardResponse z) → P (Confirmed w z))
       → P (hears d (arrives Ground w.it.primitive) w.no 1 w.it.bytes)
   unfolding held_after isStartEvent service_starts
-  away_by w P (a_forward k kl e f r low) st m b = clash (sym (ap (λ (i : Invoked). begins? (sort_of i)) e) ∙ st)
+  away_by w P (a_forward k kl e f r low) st m b = clash (sym (ap (λ (i : Option Invoked). begins? (sort_of i)) e) ∙ st)
   away_by w P (a_response z zl e r) st m b =
-      subst (λ (i : Invoked). P (hears d (arrives Ground i) w.no 1 w.it.bytes)) (sym e)
+      subst (λ (i : Option Invoked). P (hears d (arrives Ground i) w.no 1 w.it.bytes)) (sym e)
       (subst (λ (v : ℕ). P (hears d J v 1 w.it.bytes)) (sym (m ∙ held_is p ed ver d h.at))
       (subst P (sym (heard_data p ed ver d h.at J num w.it.bytes))
       (subst (λ (a : UserData). P (E (numbered_step Ground rec num (Service J a) num))) (sym (away_reads z (lent w.it.bytes) r))
@@ -254,7 +252,7 @@ module _ (p : ℕ) (ed : Edition) (ver : ℕ) (d : Desk) (h : Away p ed ver d) w
   away_takes w g st m =
       away_by w (λ (c : Called). Comes (centre_machine p) (Rest p ed ver) d (does d c)) g st m
       (λ (z : ℕ) (zl : ltb z forward_results ≡ true)
-      (r : apdu_at ed pdu.GroundPdus (lent w.it.bytes) ≡ decoded.Is (is.ForwardResponse z)). shut_comes p ed
+      (r : apdu_at ed pdu.GroundPdus (lent w.it.bytes) ≡ Ok (is.ForwardResponse z)). shut_comes p ed
       ver d h.at (forward_confirmed rec z no_version) (lent w.it.bytes) (lent w.it.bytes)
       (lent w.it.bytes) (carried_by (read_pdu rec.edition Ground rec.control J (lent w.it.bytes)))
       (confirmed_shut z))
@@ -270,15 +268,15 @@ module _ (p : ℕ) (ed : Edition) (ver : ℕ) (d : Desk) (h : Away p ed ver d) w
       → Confirms ed w (hears d (arrives Ground w.it.primitive) w.no 1 w.it.bytes)
   away_tells w g st m =
       away_by w (Confirms ed w) g st m
-      (λ (z : ℕ) (zl : ltb z forward_results ≡ true) (r : apdu_at ed pdu.GroundPdus (lent w.it.bytes) ≡ decoded.Is (is.ForwardResponse z)).
+      (λ (z : ℕ) (zl : ltb z forward_results ≡ true) (r : apdu_at ed pdu.GroundPdus (lent w.it.bytes) ≡ Ok (is.ForwardResponse z)).
       let l = ltb-true z forward_results zl in
       record { result = z; reads = r; code = ap (λ (i : ℕ). i % codes) (confirmed_told w z) ∙ code_unpacked 9 z 0 (omega arith); parameter = ap (λ (i : ℕ). i / codes % codes) (confirmed_told w z) ∙ parameter_unpacked 9 z 0 (omega arith) (omega (arith, l)) })
 
   pub away_stale : (w : Numbered Wire) → Good p ed ver w → is_start (centre_machine p).at w ≡ false
       → (w.no ≡ held_by d.kept.bytes → ⊥)
       → Refuses (centre_machine p) (does d (hears d (arrives Ground w.it.primitive) w.no 1 w.it.bytes))
-  away_stale w (a_forward k kl e f r low) st m = clash (sym (ap (λ (i : Invoked). begins? (sort_of i)) e) ∙ st)
+  away_stale w (a_forward k kl e f r low) st m = clash (sym (ap (λ (i : Option Invoked). begins? (sort_of i)) e) ∙ st)
   away_stale w (a_response z zl e r) st m =
-      subst (λ (i : Invoked). Refuses (centre_machine p) (does d (hears d (arrives Ground i) w.no 1 w.it.bytes))) (sym e)
+      subst (λ (i : Option Invoked). Refuses (centre_machine p) (does d (hears d (arrives Ground i) w.no 1 w.it.bytes))) (sym e)
       (heard_stale p ed ver d h.at J w.no w.it.bytes (other_stale p ed ver d h.at permanent 0 p no_version
       w.no (λ (q : w.no ≡ num). m (q ∙ sym (held_is p ed ver d h.at)))))

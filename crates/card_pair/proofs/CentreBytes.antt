@@ -16,11 +16,10 @@ use Rattle.apdu.specs.Writing.{done}
 use Rattle.pdus.specs.declared.PduType.TheVariants as pdu
 use Rattle.apdu.specs.declared.Data.{Data}
 use Rattle.apdu.specs.declared.Apdu.{Apdu}
-use Rattle.apdu.specs.declared.Written.TheVariants as written
 use Rattle.apdu.proofs.Theorems.{writes}
 use Rattle.codec.specs.Codec.{pdu_bits, given_fits, apdu_fits}
 use Rattle.codec.proofs.Instance.{laws}
-use Rattle.machine.specs.Codes.{security_values, routing_classes, versions, user}
+use Rattle.machine.specs.Codes.{security_values, routing_classes, versions}
 use Rattle.machine.specs.Record.{enter}
 use Rattle.machine.specs.Event.{event_fits}
 use Rattle.machine.specs.Outcome.{is_none}
@@ -42,21 +41,20 @@ use Rattle.machine.specs.declared.event.Event.TheVariants.{User, Service}
 use Rattle.machine.specs.declared.event.Event.TheVariants.{Forward as ForwardRequested}
 use Rattle.machine.specs.declared.outcome.StepRefusal.TheVariants.{Shape, Stale, Prohibited}
 use Rattle.machine.specs.declared.outcome.Invoked.{Invoked}
-use Rattle.machine.specs.declared.outcome.Invoked.TheVariants.{Silent, DStartRequest, DStartResponse, DDataRequest, DEndRequest, DEndResponse, DAbortRequest, DStartForwardRequest, DStartForwardResponse}
+use Rattle.machine.specs.declared.outcome.Invoked.TheVariants.{DStartRequest, DStartResponse, DDataRequest, DEndRequest, DEndResponse, DAbortRequest, DStartForwardRequest, DStartForwardResponse}
 use Rattle.machine.specs.declared.outcome.Told.{Told}
 use Rattle.machine.specs.declared.outcome.Outcome as O
 use Rattle.numbered.specs.Numbers.{service_starts, is_start as isStartEvent, is_service, is_stale, held_after, refusal_of, numbered_step}
 use Rattle.numbered.proofs.Laws.{shape_first, then_step}
-use Rattle.stored.specs.Stored.{record_bytes, load_at, store_at}
+use Rattle.stored.specs.Stored.{record_bytes, load_at, store_at, is_stored}
 use Rattle.packed.specs.Packed.{invoked_number, told_number, version_number}
 use Rattle.step.specs.Call.{Carried, Called, called as calledWith, carries_data, carried_by, no_data, bits_of_written, pdu_to, first_takes, passes, second_takes, finished, concluded, entering, event_step, user_step, user_call, user_by, read_pdu, meaning, data_step, bare_step, service_step, service_by}
-use Rattle.stored.specs.declared.Loaded.TheVariants.{Is}
 use Rattle.stored.proofs.Storing.{length_stored, loaded_stored}
 use Rattle.step.proofs.Calling.{with_record_is}
 use Rattle.packed.proofs.Unpacked.{invoked_low, told_low, refusal_unpacked, invoked_unpacked, told_unpacked, sent_unpacked, version_unpacked}
 use Rattle.step.proofs.Taken.{Coded}
 use Rattle.pair.specs.Names.{Side, Ground, closed, takes}
-use Rattle.pair.specs.Carrier.{Sent, Outcome, refused, acts, begins, begins?, starts}
+use Rattle.pair.specs.Carrier.{Sent, Outcome, refused, acts, begins?, starts}
 use Rattle.pair.specs.Numbered.{Numbered}
 use Rattle.pair.specs.Wires.{Wire, sort_of}
 use Rattle.pair.proofs.TwoCentres.{Back, Returns, Comes, Refuses}
@@ -66,6 +64,7 @@ use Rattle.card_pair.specs.CentreMachine.{Desk, version_part, between_centres, c
 use Rattle.card_pair.specs.Promise.{Rests}
 use Rattle.card_pair.proofs.Ends.{number_in, concluded_refused}
 use Rattle.card_pair.proofs.CardCalls.{none_given}
+use Rattle.std.specs.Prelude.{Ok, None, Option, Some}
 
 -- ---- a call that is taken, or not
 
@@ -85,16 +84,16 @@ put_calm : (p : ℕ) (e : Numbered Wire) → begins? (sort_of e.it.primitive) �
     → starts (centre_machine p).at (put_on e e.it.primitive) ≡ false
 put_calm p e b = go e.it.primitive
   where
-    go : (i : Invoked) → starts (centre_machine p).at (put_on e i) ≡ false
-    go Silent = refl
-    go (DStartRequest q s) = b
-    go (DStartResponse x s) = b
-    go DDataRequest = b
-    go DEndRequest = b
-    go (DEndResponse x) = b
-    go (DAbortRequest o) = b
-    go (DStartForwardRequest q s v) = b
-    go (DStartForwardResponse s v) = b
+    go : (i : Option Invoked) → starts (centre_machine p).at (put_on e i) ≡ false
+    go None = refl
+    go (Some (DStartRequest q s)) = b
+    go (Some (DStartResponse x s)) = b
+    go (Some DDataRequest) = b
+    go (Some DEndRequest) = b
+    go (Some (DEndResponse x)) = b
+    go (Some (DAbortRequest o)) = b
+    go (Some (DStartForwardRequest q s v)) = b
+    go (Some (DStartForwardResponse s v)) = b
 
 -- ---- outcomes that end in IDLE and begin nothing
 
@@ -109,12 +108,12 @@ pub record Shut (q : Record) (o : O.Outcome) : Type 0 where
   pub coded : Coded o.next
   pub calm : (v : ℕ) → begins? (sort_of (between_centres v (invoked_of (invoked_number o.invoked)))) ≡ false
 
-pub closes_shut : (q : Record) (t : Told) → Coded q → Shut q (closes q t)
+pub closes_shut : (q : Record) (t : Option Told) → Coded q → Shut q (closes q t)
 unfolding closes enter invoked_number
 closes_shut q t k =
     record { taken = refl; control = refl; timer = refl; user = refl; policy = refl; version = refl; edition = refl; coded = record { request = k.request; policy = k.policy; least = k.least; most = k.most; highest = k.highest }; calm = λ (v : ℕ). refl }
 
-pub aborts_shut : (q : Record) (x : ℕ) (t : Told) → Coded q → Shut q (aborts q x t)
+pub aborts_shut : (q : Record) (x : ℕ) (t : Option Told) → Coded q → Shut q (aborts q x t)
 unfolding aborts enter invoked_number
 aborts_shut q x t k =
     record { taken = refl; control = refl; timer = refl; user = refl; policy = refl; version = refl; edition = refl; coded = record { request = k.request; policy = k.policy; least = k.least; most = k.most; highest = k.highest }; calm = λ (v : ℕ). refl }
@@ -130,7 +129,7 @@ abort_shut q g x k =
 pub record At (p : ℕ) (ed : Edition) (ver : ℕ) (d : Desk) : Type 0 where
   pub held : Record
   pub number : ℕ
-  pub load : load_at d.kept.bytes ≡ Is Ground held number
+  pub load : load_at d.kept.bytes ≡ is_stored Ground held number
   pub size : length d.kept.bytes ≡ record_bytes
   pub coded : Coded held
   pub low : number < 2 ^ 64
@@ -158,7 +157,7 @@ module _ (p : ℕ) (ed : Edition) (ver : ℕ) (d : Desk) (at : At p ed ver d) wh
   Ended m o li lm lc x = concluded d.kept.bytes (lent_first d) (lent_second d) at.held.edition Ground m o li lm lc x
 
   pub stored_loads : (x : Record) (m : ℕ) → Coded x → m < 2 ^ 64
-      → (load_at (store_at d.kept.bytes Ground x m).bytes ≡ Is Ground x m) × (length (store_at d.kept.bytes Ground x m).bytes ≡ record_bytes)
+      → (load_at (store_at d.kept.bytes Ground x m).bytes ≡ is_stored Ground x m) × (length (store_at d.kept.bytes Ground x m).bytes ≡ record_bytes)
   unfolding store_at
   stored_loads x m k l =
       rw (
@@ -188,7 +187,7 @@ module _ (p : ℕ) (ed : Edition) (ver : ℕ) (d : Desk) (at : At p ed ver d) wh
     unfolding concluded finished
     told_is = rw t (told_unpacked _ _ _ _ _ (invoked_low o.invoked) (told_low o.told))
 
-    pub loads_next : Coded o.next → m < 2 ^ 64 → load_at (Ended m o li lm lc x).kept ≡ Is Ground o.next m
+    pub loads_next : Coded o.next → m < 2 ^ 64 → load_at (Ended m o li lm lc x).kept ≡ is_stored Ground o.next m
     loads_next k l = ap load_at kept_is ∙ (stored_loads o.next m k l).0
 
     -- the version, and the bytes that were written
@@ -206,7 +205,7 @@ module _ (p : ℕ) (ed : Edition) (ver : ℕ) (d : Desk) (at : At p ed ver d) wh
     bytes_are a sh e =
         let w = (laws q.edition).pdu_most_is pdu.GroundPdus li lm lc a sh in
         let z : pdu_to q.edition pdu.GroundPdus li lm lc a (lent_first d) ≡ done
-        (written.Bits (length (pdu_bits q.edition pdu.GroundPdus (pdu_in li lm lc a))))
+        (Ok (length (pdu_bits q.edition pdu.GroundPdus (pdu_in li lm lc a))))
         (put_bits (lent_first d) 0 (padded (pdu_bits q.edition pdu.GroundPdus (pdu_in li lm lc a)))) = rw sh (writes
         (lent_first d) (pdu_bits q.edition pdu.GroundPdus (pdu_in li lm lc a))
         (d.lends d.kept.calls).first_full) in
@@ -300,7 +299,7 @@ module _ (p : ℕ) (ed : Edition) (ver : ℕ) (d : Desk) (at : At p ed ver d) wh
   unpermitted e v h = rw h (go (event_fits Ground q.edition e) (is_stale n e v) (clause Ground q e))
     where
       go : (s l : Bool) (a : O.Outcome)
-          → is_none (cond (is_none (cond (not s) Shape (cond l Stale Prohibited))) a (N.refused (cond (not s) Shape (cond l Stale Prohibited)) q)).refusal ≡ false
+          → is_none (cond (is_none (cond (not s) (Some Shape) (cond l (Some Stale) (Some Prohibited)))) a (N.refused (cond (not s) (Some Shape) (cond l (Some Stale) (Some Prohibited))) q)).refusal ≡ false
       go true true a = refl
       go true false a = refl
       go false l a = refl
@@ -310,7 +309,7 @@ module _ (p : ℕ) (ed : Edition) (ver : ℕ) (d : Desk) (at : At p ed ver d) wh
   stale_refused e v h = rw h (go (event_fits Ground q.edition e) (clause Ground q e))
     where
       go : (s : Bool) (a : O.Outcome)
-          → is_none (cond (is_none (cond (not s) Shape Stale)) a (N.refused (cond (not s) Shape Stale) q)).refusal ≡ false
+          → is_none (cond (is_none (cond (not s) (Some Shape) (Some Stale))) a (N.refused (cond (not s) (Some Shape) (Some Stale)) q)).refusal ≡ false
       go true a = refl
       go false a = refl
 

@@ -7,9 +7,8 @@ use native.Mathlib.Omega.{arith}
 use Rattle.editions.specs.Editions.{secures}
 use Rattle.editions.specs.declared.Edition.{Edition}
 use Rattle.machine.specs.Calls.{security_sent}
-use Rattle.stored.specs.declared.Loaded.{Loaded}
 use Rattle.pair.specs.Names.{Control, is_idle, waits}
-use Rattle.pair.specs.Carrier.{begins, is_start}
+use Rattle.pair.specs.Carrier.{is_start}
 use Rattle.pair.specs.Numbered.{Numbered}
 use Rattle.pair.specs.Wires.{Wire}
 use Rattle.pair.proofs.TwoCentres.{Centre}
@@ -17,10 +16,11 @@ use Rattle.card_pair.specs.CardMachine.{control_in, held_by}
 use Rattle.card_pair.specs.CentreMachine.{CentreAsked, Desk, centre_machine}
 use Rattle.card_pair.specs.Promise.{Rests}
 use Rattle.card_pair.proofs.Ends.{number_in}
-use Rattle.card_pair.proofs.CentreBytes.{start_stale}
 use Rattle.card_pair.proofs.CentreEntries.{Away, Good, Rest}
-use Rattle.card_pair.proofs.CentreRests.{idle, rest_answers, rest_asks, rest_errs, rest_expires, rest_stale}
+use Rattle.card_pair.proofs.CentreRests.{rest_answers, rest_asks, rest_errs, rest_expires, rest_stale}
 use Rattle.card_pair.proofs.CentreAway.{away_asks, away_away, away_errs, away_expires, away_p_abort, away_stale, away_takes}
+use Rattle.std.specs.Prelude.{Option}
+use Rattle.stored.specs.declared.Stored.{Stored}
 
 -- ---- so they are a machine as pair asks for
 
@@ -29,11 +29,11 @@ centre p ed ver fair = record {
   Rest = Rest p ed ver;
   Away = Away p ed ver;
   Good = Good p ed ver;
-  rest_idle = λ (d : Desk) (h : Rests p ed ver d.kept.bytes). ap (λ (l : Loaded). is_idle (control_in l))
+  rest_idle = λ (d : Desk) (h : Rests p ed ver d.kept.bytes). ap (λ (l : Option Stored). is_idle (control_in l))
       h.begins.load ∙ ap is_idle h.begins.idle;
-  rest_waits = λ (d : Desk) (h : Rests p ed ver d.kept.bytes). ap (λ (l : Loaded). waits (control_in l).state)
+  rest_waits = λ (d : Desk) (h : Rests p ed ver d.kept.bytes). ap (λ (l : Option Stored). waits (control_in l).state)
       h.begins.load ∙ ap (λ (c : Control). waits c.state) h.begins.idle;
-  away_idle = λ (d : Desk) (h : Away p ed ver d). ap (λ (l : Loaded). is_idle (control_in l)) h.at.load ∙ ap is_idle h.control;
+  away_idle = λ (d : Desk) (h : Away p ed ver d). ap (λ (l : Option Stored). is_idle (control_in l)) h.at.load ∙ ap is_idle h.control;
   call_rest = λ (d : Desk) (a : CentreAsked) (h : Rests p ed ver d.kept.bytes). rest_asks p ed ver fair d h a;
   call_away = λ (d : Desk) (a : CentreAsked) (h : Away p ed ver d). away_asks p ed ver d h a;
   start_answered = λ (d : Desk) (w : Numbered Wire) (h : Rests p ed ver d.kept.bytes) (g : Good p ed ver w)

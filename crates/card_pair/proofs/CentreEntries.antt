@@ -19,7 +19,6 @@ use Rattle.apdu.specs.declared.Heading.{Heading}
 use Rattle.apdu.specs.declared.Forward.{Forward as Forwarded}
 use Rattle.apdu.specs.declared.Apdu.{Apdu}
 use Rattle.apdu.specs.declared.Apdu.TheVariants as is
-use Rattle.apdu.specs.declared.Decoded.TheVariants as decoded
 use Rattle.apdu.proofs.Bounds.{never as apart}
 use Rattle.codec.specs.Codec.{pdu_bits, apdu_at}
 use Rattle.codec.proofs.Stated.{pdu_fits, ApduRead}
@@ -27,14 +26,12 @@ use Rattle.codec.proofs.Instance.{laws}
 use Rattle.machine.specs.Codes.{routing_classes, forward_results, permanent, success, no_version}
 use Rattle.machine.specs.Calls.{qos_asked, call_of}
 use Rattle.machine.specs.Faults.{differs}
-use Rattle.machine.specs.declared.event.UserData.TheVariants.{Forward, ForwardResponse}
 use Rattle.machine.specs.declared.event.UserPrimitive.{UserPrimitive}
 use Rattle.machine.specs.declared.event.UserPrimitive.TheVariants.{StartServiceRequest, StartServiceResponse, MessageServiceRequest, EndServiceRequest, EndServiceResponse, UserAbortServiceRequest}
 use Rattle.machine.specs.declared.outcome.Invoked.TheVariants.{DStartRequest, DStartResponse, DStartForwardRequest, DStartForwardResponse}
 use Rattle.numbered.specs.Numbers.{user_starts}
 use Rattle.packed.specs.Packed.{codes, three}
 use Rattle.step.specs.Call.{Called}
-use Rattle.stored.specs.declared.Loaded.TheVariants.{Is}
 use Rattle.packed.proofs.Unpacked.{code_unpacked, parameter_unpacked, last_unpacked}
 use Rattle.pair.specs.Names.{Ground, entered, closed, takes}
 use Rattle.pair.specs.Names.{Forward as FORWARD}
@@ -45,6 +42,7 @@ use Rattle.card_pair.specs.Answered.{told_part_of, invoked_of, handed_of}
 use Rattle.card_pair.specs.CentreMachine.{Desk, centre_entry, after, does}
 use Rattle.card_pair.specs.Promise.{Rests}
 use Rattle.card_pair.proofs.CentreBytes.{At}
+use Rattle.std.specs.Prelude.{Ok, Some}
 
 -- ---- a centre that rests, one that is away, and their entries
 
@@ -56,11 +54,11 @@ pub record Away (p : ℕ) (ed : Edition) (ver : ℕ) (d : Desk) : Type 0 where
 
 -- a forward with its message, or its response
 pub data Good (p : ℕ) (ed : Edition) (ver : ℕ) (w : Numbered Wire) : Type 0 where
-  a_forward : (k : ℕ) → ltb k routing_classes ≡ true → w.it.primitive ≡ DStartForwardRequest (qos_asked k) p ver
-      → (f : Forwarded) → apdu_at ed pdu.GroundPdus (lent w.it.bytes) ≡ decoded.Is (is.Forward f) → w.no < 2 ^ 64
+  a_forward : (k : ℕ) → ltb k routing_classes ≡ true → w.it.primitive ≡ Some (DStartForwardRequest (qos_asked k) p ver)
+      → (f : Forwarded) → apdu_at ed pdu.GroundPdus (lent w.it.bytes) ≡ Ok (is.Forward f) → w.no < 2 ^ 64
       → Good p ed ver w
-  a_response : (x : ℕ) → ltb x forward_results ≡ true → w.it.primitive ≡ DStartForwardResponse p no_version
-      → apdu_at ed pdu.GroundPdus (lent w.it.bytes) ≡ decoded.Is (is.ForwardResponse x) → Good p ed ver w
+  a_response : (x : ℕ) → ltb x forward_results ≡ true → w.it.primitive ≡ Some (DStartForwardResponse p no_version)
+      → apdu_at ed pdu.GroundPdus (lent w.it.bytes) ≡ Ok (is.ForwardResponse x) → Good p ed ver w
 
 abbrev pub Rest : ℕ → Edition → ℕ → Desk → Type 0
 Rest p ed ver d = Rests p ed ver d.kept.bytes
@@ -71,14 +69,14 @@ clash e = absurd (subst T e tt)
 -- the call c answers a forward; the answer says success exactly where the user is told of it (a forward indication, 8)
 pub record Replies (ed : Edition) (d : Desk) (c : Called) : Type 0 where
   pub result : ℕ
-  pub reads : apdu_at ed pdu.GroundPdus (lent (centre_entry c).it.bytes) ≡ decoded.Is (is.ForwardResponse result)
+  pub reads : apdu_at ed pdu.GroundPdus (lent (centre_entry c).it.bytes) ≡ Ok (is.ForwardResponse result)
   pub sends : does d c ≡ acts (after d c) (handed_of c) (puts (centre_entry c))
   pub tells : eqb (told_part_of c.number % codes) 8 ≡ eqb result success
 
 -- the call c tells the user what the answer w says (a forward confirmation, 9)
 pub record Confirms (ed : Edition) (w : Numbered Wire) (c : Called) : Type 0 where
   pub result : ℕ
-  pub reads : apdu_at ed pdu.GroundPdus (lent w.it.bytes) ≡ decoded.Is (is.ForwardResponse result)
+  pub reads : apdu_at ed pdu.GroundPdus (lent w.it.bytes) ≡ Ok (is.ForwardResponse result)
   pub code : told_part_of c.number % codes ≡ 9
   pub parameter : told_part_of c.number / codes % codes ≡ result
 
@@ -119,10 +117,10 @@ response_value l (is.ForwardResponse y) x e = let z : y ≡ x = cc in ap is.Forw
 
 -- ---- the codes of the two primitives
 
-pub request_back : (k s : ℕ) → k < 16 → s < 2 → invoked_of (three 1 k s) ≡ DStartRequest (qos_asked k) s
+pub request_back : (k s : ℕ) → k < 16 → s < 2 → invoked_of (three 1 k s) ≡ Some (DStartRequest (qos_asked k) s)
 request_back k s h g = rw (code_unpacked 1 k s (omega arith), parameter_unpacked 1 k s (omega arith) h, last_unpacked 1 k s (omega arith) g)
 
-pub response_back : (s : ℕ) → s < 2 → invoked_of (three 2 permanent s) ≡ DStartResponse permanent s
+pub response_back : (s : ℕ) → s < 2 → invoked_of (three 2 permanent s) ≡ Some (DStartResponse permanent s)
 response_back s g = rw (
   code_unpacked 2 permanent s (omega arith),
   parameter_unpacked 2 permanent s (omega arith)

@@ -15,11 +15,10 @@ use Rattle.pdus.specs.declared.PduType.TheVariants as pdu
 use Rattle.apdu.specs.declared.Data.{Data}
 use Rattle.apdu.specs.declared.Forward.{Forward as Forwarded}
 use Rattle.apdu.specs.declared.Apdu.TheVariants as is
-use Rattle.apdu.specs.declared.Decoded.TheVariants as decoded
 use Rattle.codec.specs.Codec.{forward_given_fits, apdu_fits, apdu_at}
 use Rattle.codec.proofs.Stated.{pdu_fits}
 use Rattle.codec.proofs.Instance.{laws}
-use Rattle.machine.specs.Codes.{security_values, routing_classes, versions, forward_results, facility, success, service_not_supported, no_version, user}
+use Rattle.machine.specs.Codes.{security_values, routing_classes, versions, forward_results, facility, success, service_not_supported, no_version}
 use Rattle.machine.specs.Record.{enter}
 use Rattle.machine.specs.Event.{qos_fits, service_fits, event_fits}
 use Rattle.machine.specs.Outcome.{is_none}
@@ -32,7 +31,7 @@ use Rattle.clauses.proofs.Clauses.{error_idle}
 use Rattle.clauses.proofs.ForwardClauses.{supported, not_supported}
 use Rattle.machine.specs.declared.record.Record.{Record}
 use Rattle.machine.specs.declared.event.UserData.{UserData}
-use Rattle.machine.specs.declared.event.UserData.TheVariants.{Forward, ForwardResponse}
+use Rattle.machine.specs.declared.event.UserData.TheVariants.{Forward}
 use Rattle.machine.specs.declared.event.UserPrimitive.{UserPrimitive}
 use Rattle.machine.specs.declared.event.UserPrimitive.TheVariants.{StartServiceResponse, EndServiceRequest, EndServiceResponse}
 use Rattle.machine.specs.declared.event.ServicePrimitive.{ServicePrimitive}
@@ -40,21 +39,20 @@ use Rattle.machine.specs.declared.event.ServicePrimitive.TheVariants.{DStartIndi
 use Rattle.machine.specs.declared.event.Event.TheVariants.{User, Service, TimerExpires, UnrecoverableSystemError}
 use Rattle.machine.specs.declared.event.Event.TheVariants.{Forward as ForwardRequested}
 use Rattle.machine.specs.declared.outcome.Invoked.{Invoked}
-use Rattle.machine.specs.declared.outcome.Invoked.TheVariants.{Silent, DStartForwardRequest, DStartForwardResponse}
+use Rattle.machine.specs.declared.outcome.Invoked.TheVariants.{DStartForwardRequest, DStartForwardResponse}
 use Rattle.machine.specs.declared.outcome.Told.{Told}
-use Rattle.machine.specs.declared.outcome.Told.TheVariants.{Untold, ForwardIndication}
+use Rattle.machine.specs.declared.outcome.Told.TheVariants.{ForwardIndication}
 use Rattle.machine.specs.declared.outcome.Outcome as O
 use Rattle.numbered.specs.Numbers.{user_starts, service_starts, is_start as isStartEvent, is_service, is_stale, held_after, refusal_of, numbered_step}
 use Rattle.numbered.proofs.Laws.{then_step}
-use Rattle.stored.specs.Stored.{record_bytes, load_at}
+use Rattle.stored.specs.Stored.{record_bytes, load_at, is_stored}
 use Rattle.packed.specs.Packed.{codes, invoked_number, told_number, version_number}
 use Rattle.step.specs.Call.{Carried, Called, called as calledWith, carries_data, carries_forward, carried_by, no_data, first_takes, concluded, user_call, forward_step, forward_by, reads_as, reads_again, read_pdu, meaning}
-use Rattle.stored.specs.declared.Loaded.TheVariants.{Is}
 use Rattle.step.proofs.Taken.{Coded}
 use Rattle.card.specs.Face.{given_data, message_requested, abort_requested, holds_message}
 use Rattle.pair.specs.Names.{Ground, Control, is_idle, entered, takes}
 use Rattle.pair.specs.Names.{Forward as FORWARD}
-use Rattle.pair.specs.Carrier.{nothing, Outcome, refused, acts, begins, plain, begins?, is_start}
+use Rattle.pair.specs.Carrier.{nothing, Outcome, refused, acts, begins?, is_start}
 use Rattle.pair.specs.Numbered.{Numbered}
 use Rattle.pair.specs.Wires.{Wire, sort_of, arrives}
 use Rattle.pair.proofs.TwoCentres.{Begun, Starts, Quiet, Answers, Refuses}
@@ -66,6 +64,7 @@ use Rattle.card_pair.proofs.Ends.{number_in, Keeps}
 use Rattle.card_pair.proofs.Beginnings.{begins_keeps, begins_valid}
 use Rattle.card_pair.proofs.CentreBytes.{At, Ended, Shut, at_record, bytes_are, closes_shut, forward_not_fitting, forward_stale, heard_data, heard_stale, held_is, invoked_is, kept_is, loads_next, no_number, number_taken, refused_call, reported, shut_back, start_stale, stored_loads, taken_does, told_is, unpermitted, user_refused, version_is}
 use Rattle.card_pair.proofs.CentreEntries.{Away, Good, Replies, Rest, a_forward, a_response, clash, forward_value, idle_takes, no_difference, own_version, put_read, request_back, response_back, response_value}
+use Rattle.std.specs.Prelude.{Ok, None, Option, Some}
 
 -- ---- at rest
 
@@ -117,7 +116,7 @@ module _ (p : ℕ) (ed : Edition) (ver : ℕ) (fair : security_sent (secures ed)
     unfolding forward_request
     request_taken = refl
 
-    request_loads : load_at C.kept ≡ Is Ground (forward_request x k p).next v.number
+    request_loads : load_at C.kept ≡ is_stored Ground (forward_request x k p).next v.number
     request_loads =
         loads_next p ed ver d at_rest v.number (forward_request x k p) (lent f.msgs) (lent f.msgs)
         (lent f.msgs) (carries_forward F) request_taken request_coded v.low
@@ -137,7 +136,7 @@ module _ (p : ℕ) (ed : Edition) (ver : ℕ) (fair : security_sent (secures ed)
           request = sends_it;
         }
 
-    request_primitive : ltb k routing_classes ≡ true → (centre_entry C).it.primitive ≡ DStartForwardRequest (qos_asked k) p ver
+    request_primitive : ltb k routing_classes ≡ true → (centre_entry C).it.primitive ≡ Some (DStartForwardRequest (qos_asked k) p ver)
     unfolding forward_request invoked_number
     request_primitive e =
         let kl = ltb-true k routing_classes e in
@@ -149,8 +148,8 @@ module _ (p : ℕ) (ed : Edition) (ver : ℕ) (fair : security_sent (secures ed)
         (lent f.msgs) (carries_forward F) request_taken (subst (λ (z : ℕ). z < versions) (sym w) most) in
         ap (λ (z : ℕ). between_centres (version_part C.number) (invoked_of z)) i
         ∙ ap (between_centres (version_part C.number)) (request_back k sends (omega arith) (omega (arith, sends_low)))
-        ∙ ap (DStartForwardRequest (qos_asked k) sends) (z ∙ w ∙ h.version) ∙ ap
-        (λ (s : ℕ). DStartForwardRequest (qos_asked k) s ver) sends_it
+        ∙ ap (λ (v : ℕ). Some (DStartForwardRequest (qos_asked k) sends v)) (z ∙ w ∙ h.version) ∙ ap
+        (λ (s : ℕ). Some (DStartForwardRequest (qos_asked k) s ver)) sends_it
 
     request_good : ltb k routing_classes ≡ true → forward_given_fits x.edition (lent f.msgs) F ≡ true → Good p ed ver (centre_entry C)
     unfolding forward_request first_takes apdu_fits pdu_fits pdu_in
@@ -163,7 +162,7 @@ module _ (p : ℕ) (ed : Edition) (ver : ℕ) (fair : security_sent (secures ed)
         ((laws x.edition).forward_given_places (lent f.msgs) F sh) refl in
         subst (λ (z : Edition). Good p z ver (centre_entry C)) h.begins.edition
         (a_forward k e (request_primitive e) g.message (ap
-        (λ (z : List ℕ). apdu_at x.edition pdu.GroundPdus (lent z)) b ∙ r.read ∙ ap decoded.Is g.same)
+        (λ (z : List ℕ). apdu_at x.edition pdu.GroundPdus (lent z)) b ∙ r.read ∙ ap Ok g.same)
         (subst (λ (z : ℕ). z < 2 ^ 64) (sym (ap number_in request_loads)) v.low))
 
     request_begun : ltb k routing_classes ≡ true → y < v.number
@@ -173,7 +172,7 @@ module _ (p : ℕ) (ed : Edition) (ver : ℕ) (fair : security_sent (secures ed)
         let a = held_is p ed ver d at_rest in
         let b = ap number_in request_loads in
         record {
-          start = ap (λ (i : Invoked). begins? (sort_of i)) (request_primitive e);
+          start = ap (λ (i : Option Invoked). begins? (sort_of i)) (request_primitive e);
           away = request_away;
           good = request_good e sh;
           number = refl;
@@ -185,7 +184,7 @@ module _ (p : ℕ) (ed : Edition) (ver : ℕ) (fair : security_sent (secures ed)
     request_starts e lt sh =
         taken_does Begins_it d C (number_taken p ed ver d at_rest v.number (forward_request x k p) (lent f.msgs)
         (lent f.msgs) (lent f.msgs) (carries_forward F) request_taken)
-        (subst (λ (i : Invoked). Begins_it (acts (after d C) (handed_of C) (put_on (centre_entry C) i)))
+        (subst (λ (i : Option Invoked). Begins_it (acts (after d C) (handed_of C) (put_on (centre_entry C) i)))
         (sym (request_primitive e)) (request_begun e lt sh))
 
     request_step : ltb k routing_classes ≡ true → y < v.number
@@ -279,28 +278,28 @@ module _ (p : ℕ) (ed : Edition) (ver : ℕ) (fair : security_sent (secures ed)
       E o = concluded d.kept.bytes (lent_first d) (lent_second d) x.edition Ground y o (lent []) (lent [])
           (lent []) (carries_data no_data)
 
-      shut : Shut x (closes x Untold)
-      shut = closes_shut x Untold keeps.coded
+      shut : Shut x (closes x None)
+      shut = closes_shut x None keeps.coded
 
-      prim : (centre_entry (E (closes x Untold))).it.primitive ≡ Silent
-      prim = ap (λ (i : ℕ). between_centres (version_part (E (closes x Untold)).number) (invoked_of i)) (invoked_is p ed
-          ver d at_rest y (closes x Untold) (lent []) (lent []) (lent []) (carries_data no_data) shut.taken)
+      prim : (centre_entry (E (closes x None))).it.primitive ≡ None
+      prim = ap (λ (i : ℕ). between_centres (version_part (E (closes x None)).number) (invoked_of i)) (invoked_is p ed
+          ver d at_rest y (closes x None) (lent []) (lent []) (lent []) (carries_data no_data) shut.taken)
 
-      silent : Quiet (centre_machine p) (Rest p ed ver) d (does d (E (closes x Untold)))
+      silent : Quiet (centre_machine p) (Rest p ed ver) d (does d (E (closes x None)))
       silent =
-          taken_does (Quiet (centre_machine p) (Rest p ed ver) d) d (E (closes x Untold)) (number_taken p ed ver d
-          at_rest y (closes x Untold) (lent []) (lent []) (lent []) (carries_data no_data) shut.taken)
-          (subst (λ (i : Invoked). Quiet (centre_machine p) (Rest p ed ver) d (acts (after d (E (closes x Untold))) (handed_of (E (closes x Untold))) (put_on (centre_entry (E (closes x Untold))) i))) (sym prim)
-          (shut_back p ed ver d at_rest (closes x Untold) (lent []) (lent []) (lent []) (carries_data no_data) shut nothing refl))
+          taken_does (Quiet (centre_machine p) (Rest p ed ver) d) d (E (closes x None)) (number_taken p ed ver d
+          at_rest y (closes x None) (lent []) (lent []) (lent []) (carries_data no_data) shut.taken)
+          (subst (λ (i : Option Invoked). Quiet (centre_machine p) (Rest p ed ver) d (acts (after d (E (closes x None))) (handed_of (E (closes x None))) (put_on (centre_entry (E (closes x None))) i))) (sym prim)
+          (shut_back p ed ver d at_rest (closes x None) (lent []) (lent []) (lent []) (carries_data no_data) shut nothing refl))
 
   -- ---- a forward arrives
 
-  abbrev Reply : Numbered Wire → ℕ → Told → Carried → Called
+  abbrev Reply : Numbered Wire → ℕ → Option Told → Carried → Called
   Reply w z t c = concluded d.kept.bytes (lent_first d) (lent_second d) x.edition Ground w.no
       (responds x z p no_version t) (lent w.it.bytes) (lent w.it.bytes) (lent w.it.bytes) c
 
   -- it was answered by the result z, with t told to the user
-  module _ (w : Numbered Wire) (z : ℕ) (t : Told) (c : Carried) (zl : ltb z forward_results ≡ true) (sh : apdu_fits x.edition pdu.GroundPdus (lent w.it.bytes) (lent w.it.bytes) (lent w.it.bytes) (is.ForwardResponse z) ≡ true) (quiet : version_number (DStartForwardResponse p no_version) t ≡ no_version) (low : w.no < 2 ^ 64) where
+  module _ (w : Numbered Wire) (z : ℕ) (t : Option Told) (c : Carried) (zl : ltb z forward_results ≡ true) (sh : apdu_fits x.edition pdu.GroundPdus (lent w.it.bytes) (lent w.it.bytes) (lent w.it.bytes) (is.ForwardResponse z) ≡ true) (quiet : version_number (Some (DStartForwardResponse p no_version)) t ≡ no_version) (low : w.no < 2 ^ 64) where
     abbrev B : O.Outcome
     B = responds x z p no_version t
 
@@ -315,7 +314,7 @@ module _ (p : ℕ) (ed : Edition) (ver : ℕ) (fair : security_sent (secures ed)
     unfolding responds
     reply_taken = refl
 
-    reply_loads : load_at K.kept ≡ Is Ground (responds x z p no_version t).next w.no
+    reply_loads : load_at K.kept ≡ is_stored Ground (responds x z p no_version t).next w.no
     reply_loads = loads_next p ed ver d at_rest w.no B (lent w.it.bytes) (lent w.it.bytes)
         (lent w.it.bytes) c reply_taken reply_coded low
 
@@ -323,7 +322,7 @@ module _ (p : ℕ) (ed : Edition) (ver : ℕ) (fair : security_sent (secures ed)
     unfolding responds enter
     reply_rests = record { begins = record { held = (responds x z p no_version t).next; number = w.no; load = reply_loads; edition = h.begins.edition; policy = h.begins.policy; idle = refl; timer = refl; user = refl }; version = h.version }
 
-    reply_primitive : (centre_entry K).it.primitive ≡ DStartForwardResponse p no_version
+    reply_primitive : (centre_entry K).it.primitive ≡ Some (DStartForwardResponse p no_version)
     unfolding responds invoked_number
     reply_primitive =
         let i = invoked_is p ed ver d at_rest w.no B (lent w.it.bytes) (lent w.it.bytes) (lent w.it.bytes) c reply_taken in
@@ -331,17 +330,16 @@ module _ (p : ℕ) (ed : Edition) (ver : ℕ) (fair : security_sent (secures ed)
         (lent w.it.bytes) c reply_taken (subst (λ (k : ℕ). k < versions) (sym quiet) (omega arith)) in
         ap (λ (k : ℕ). between_centres (version_part K.number) (invoked_of k)) i
         ∙ ap (between_centres (version_part K.number)) (response_back sends (omega (arith, sends_low)))
-        ∙ ap (DStartForwardResponse sends) (v ∙ quiet) ∙ ap (λ (s : ℕ). DStartForwardResponse s no_version) sends_it
+        ∙ ap (λ (v : ℕ). Some (DStartForwardResponse sends v)) (v ∙ quiet) ∙ ap (λ (s : ℕ). Some (DStartForwardResponse s no_version)) sends_it
 
-    reply_reads : apdu_at ed pdu.GroundPdus (lent (centre_entry K).it.bytes) ≡ decoded.Is (is.ForwardResponse z)
+    reply_reads : apdu_at ed pdu.GroundPdus (lent (centre_entry K).it.bytes) ≡ Ok (is.ForwardResponse z)
     unfolding responds first_takes apdu_fits pdu_fits pdu_in
     reply_reads =
         let r = put_read x.edition (is.ForwardResponse z) w.it.bytes (lent_first d) sh (d.lends d.kept.calls).first_full in
         let b = bytes_are p ed ver d at_rest w.no B (lent w.it.bytes) (lent w.it.bytes) (lent w.it.bytes)
         c reply_taken (is.ForwardResponse z) sh refl in
-        subst (λ (y : Edition). apdu_at y pdu.GroundPdus (lent (centre_entry K).it.bytes) ≡ decoded.Is
-        (is.ForwardResponse z)) h.begins.edition
-        (ap (λ (l : List ℕ). apdu_at x.edition pdu.GroundPdus (lent l)) b ∙ r.read ∙ ap decoded.Is
+        subst (λ (y : Edition). apdu_at y pdu.GroundPdus (lent (centre_entry K).it.bytes) ≡ Ok (is.ForwardResponse z)) h.begins.edition
+        (ap (λ (l : List ℕ). apdu_at x.edition pdu.GroundPdus (lent l)) b ∙ r.read ∙ ap Ok
         (response_value _ r.value z r.same))
 
     reply_good : Good p ed ver (centre_entry K)
@@ -359,7 +357,7 @@ module _ (p : ℕ) (ed : Edition) (ver : ℕ) (fair : security_sent (secures ed)
           reads = reply_reads;
           sends = ap (λ (b : Bool). cond b
               (acts (after d K) (handed_of K) (put_on (centre_entry K) (centre_entry K).it.primitive)) refused)
-              reply_number ∙ ap (λ (i : Invoked). acts (after d K) (handed_of K) (put_on (centre_entry K) i))
+              reply_number ∙ ap (λ (i : Option Invoked). acts (after d K) (handed_of K) (put_on (centre_entry K) i))
               reply_primitive;
           tells = ap (λ (i : ℕ). eqb (i % codes) 8) (told_is p ed ver d at_rest w.no B (lent w.it.bytes)
               (lent w.it.bytes) (lent w.it.bytes) c reply_taken) ∙ e;
@@ -368,7 +366,7 @@ module _ (p : ℕ) (ed : Edition) (ver : ℕ) (fair : security_sent (secures ed)
     replied : Answers (centre_machine p) (Rest p ed ver) (Good p ed ver) w (does d K)
     replied =
         taken_does (Answers (centre_machine p) (Rest p ed ver) (Good p ed ver) w) d K reply_number
-        (subst (λ (i : Invoked). Answers (centre_machine p) (Rest p ed ver) (Good p ed ver) w (acts (after d K) (handed_of K) (put_on (centre_entry K) i))) (sym reply_primitive)
+        (subst (λ (i : Option Invoked). Answers (centre_machine p) (Rest p ed ver) (Good p ed ver) w (acts (after d K) (handed_of K) (put_on (centre_entry K) i))) (sym reply_primitive)
         (record { rest = reply_rests; good = reply_good; plain = ap sort_of reply_primitive; number = ap number_in reply_loads; holds = ap number_in reply_loads }))
 
   -- whether forwarding is supported or not
@@ -399,8 +397,8 @@ module _ (p : ℕ) (ed : Edition) (ver : ℕ) (fair : security_sent (secures ed)
     same_version = eq-eqb ver x.version (sym h.version)
 
     -- a property of a call that holds where the forward is answered by success and told, and by "not supported" and not told, holds of it
-    forward_answered : (c : Carried) (P : Called → Type 0) → P (Reply w success ForwardIndication c)
-        → P (Reply w service_not_supported Untold c)
+    forward_answered : (c : Carried) (P : Called → Type 0) → P (Reply w success (Some ForwardIndication) c)
+        → P (Reply w service_not_supported None c)
         → P (concluded d.kept.bytes (lent_first d) (lent_second d) x.edition Ground w.no (numbered_step Ground x y (Service I Forward) w.no) (lent w.it.bytes) (lent w.it.bytes) (lent w.it.bytes) c)
     forward_answered c P told untold = subst (λ (o : O.Outcome). P (E o))
         (sym (then_step Ground x y (Service I Forward) w.no not_stale)) (go x.forwards refl)
@@ -415,7 +413,7 @@ module _ (p : ℕ) (ed : Edition) (ver : ℕ) (fair : security_sent (secures ed)
         go false e = subst (λ (o : O.Outcome). P (E o)) (sym (not_supported x p ver (qos_asked k) indication_fits idle right fits e)) untold
 
   -- what is read
-  rest_reads : (k : ℕ) (l : List ℕ) (f : Forwarded) → apdu_at ed pdu.GroundPdus l ≡ decoded.Is (is.Forward f)
+  rest_reads : (k : ℕ) (l : List ℕ) (f : Forwarded) → apdu_at ed pdu.GroundPdus l ≡ Ok (is.Forward f)
       → meaning (read_pdu x.edition Ground x.control (DStartIndication facility p (qos_asked k) ver) l) ≡ Forward
   unfolding read_pdu reads_as reads_again meaning
   rest_reads k l f e = rw (h.begins.edition, e)
@@ -424,12 +422,12 @@ module _ (p : ℕ) (ed : Edition) (ver : ℕ) (fair : security_sent (secures ed)
   Heard w = hears d (arrives Ground w.it.primitive) w.no 1 w.it.bytes
 
   rest_by : (w : Numbered Wire) (P : Called → Type 0) → Good p ed ver w → is_start (centre_machine p).at w ≡ true
-      → y < w.no → ((c : Carried) → w.no < 2 ^ 64 → P (Reply w success ForwardIndication c))
-      → ((c : Carried) → w.no < 2 ^ 64 → P (Reply w service_not_supported Untold c)) → P (Heard w)
+      → y < w.no → ((c : Carried) → w.no < 2 ^ 64 → P (Reply w success (Some ForwardIndication) c))
+      → ((c : Carried) → w.no < 2 ^ 64 → P (Reply w service_not_supported None c)) → P (Heard w)
   unfolding held_after isStartEvent service_starts
-  rest_by w P (a_response z zl e r) st above told untold = clash (sym st ∙ ap (λ (i : Invoked). begins? (sort_of i)) e)
+  rest_by w P (a_response z zl e r) st above told untold = clash (sym st ∙ ap (λ (i : Option Invoked). begins? (sort_of i)) e)
   rest_by w P (a_forward k kl e f r low) st above told untold =
-      subst (λ (i : Invoked). P (hears d (arrives Ground i) w.no 1 w.it.bytes)) (sym e)
+      subst (λ (i : Option Invoked). P (hears d (arrives Ground i) w.no 1 w.it.bytes)) (sym e)
       (subst P (sym (heard_data p ed ver d at_rest (DStartIndication facility p (qos_asked k) ver) w.no w.it.bytes))
       (subst (λ (a : UserData). P (concluded d.kept.bytes (lent_first d) (lent_second d) x.edition Ground w.no (numbered_step Ground x y (Service (DStartIndication facility p (qos_asked k) ver) a) w.no) (lent w.it.bytes) (lent w.it.bytes) (lent w.it.bytes) (carried_by (read_pdu x.edition Ground x.control (DStartIndication facility p (qos_asked k) ver) (lent w.it.bytes)))))
       (sym (rest_reads k (lent w.it.bytes) f r))
@@ -444,21 +442,21 @@ module _ (p : ℕ) (ed : Edition) (ver : ℕ) (fair : security_sent (secures ed)
   unfolding apdu_fits
   rest_answers w g st above =
       rest_by w (λ (c : Called). Answers (centre_machine p) (Rest p ed ver) (Good p ed ver) w (does d c)) g st above
-      (λ (c : Carried) (low : w.no < 2 ^ 64). replied w success ForwardIndication c refl refl refl low)
-      (λ (c : Carried) (low : w.no < 2 ^ 64). replied w service_not_supported Untold c refl refl refl low)
+      (λ (c : Carried) (low : w.no < 2 ^ 64). replied w success (Some ForwardIndication) c refl refl refl low)
+      (λ (c : Carried) (low : w.no < 2 ^ 64). replied w service_not_supported None c refl refl refl low)
 
   pub rest_tells : (w : Numbered Wire) → Good p ed ver w → is_start (centre_machine p).at w ≡ true
       → held_by d.kept.bytes < w.no → Replies ed d (Heard w)
   unfolding apdu_fits told_number
   rest_tells w g st above =
       rest_by w (Replies ed d) g st (let e = ap number_in h.begins.load in omega arith)
-      (λ (c : Carried) (low : w.no < 2 ^ 64). reply_tells w success ForwardIndication c refl refl refl low refl)
-      (λ (c : Carried) (low : w.no < 2 ^ 64). reply_tells w service_not_supported Untold c refl refl refl low refl)
+      (λ (c : Carried) (low : w.no < 2 ^ 64). reply_tells w success (Some ForwardIndication) c refl refl refl low refl)
+      (λ (c : Carried) (low : w.no < 2 ^ 64). reply_tells w service_not_supported None c refl refl refl low refl)
 
   pub rest_stale : (w : Numbered Wire) → Good p ed ver w → is_start (centre_machine p).at w ≡ true → w.no ≤ y
       → Refuses (centre_machine p) (does d (hears d (arrives Ground w.it.primitive) w.no 1 w.it.bytes))
-  rest_stale w (a_response z zl e r) st below = clash (sym st ∙ ap (λ (i : Invoked). begins? (sort_of i)) e)
+  rest_stale w (a_response z zl e r) st below = clash (sym st ∙ ap (λ (i : Option Invoked). begins? (sort_of i)) e)
   rest_stale w (a_forward k kl e f r low) st below =
-      subst (λ (i : Invoked). Refuses (centre_machine p) (does d (hears d (arrives Ground i) w.no 1 w.it.bytes))) (sym e)
+      subst (λ (i : Option Invoked). Refuses (centre_machine p) (does d (hears d (arrives Ground i) w.no 1 w.it.bytes))) (sym e)
       (heard_stale p ed ver d at_rest (DStartIndication facility p (qos_asked k) ver) w.no w.it.bytes
       (start_stale p ed ver d at_rest facility p (qos_asked k) ver w.no below))

@@ -41,6 +41,7 @@ use Rattle.pair.specs.Numbered.{NParty, Numbered, mark, n_fresh}
 use Rattle.pair.specs.Centres.{CentreTurn, centre_run}
 use Rattle.card_pair.specs.CardMachine.{Buffers, Word, control_in, held_by}
 use Rattle.card_pair.specs.CentreMachine.{Passed, CentreAsked, forward_request_of, new_desk, centre_machine}
+use Rattle.std.specs.Prelude.{Option, Some}
 
 abbrev lends : ℕ → Buffers
 lends n = record { first = replicate buffer_least 255; second = replicate buffer_least 170; first_full = omega arith; second_full = omega arith }
@@ -91,12 +92,12 @@ after f ts =
 abbrev view : Seen → Seen → View
 view a b = record { here = a; there = b }
 
-abbrev wire : Invoked → List ℕ → Numbered Wire
+abbrev wire : Option Invoked → List ℕ → Numbered Wire
 wire i l = mark 1 (record { primitive = i; bytes = l })
 
 -- on its way
 pub on_its_way : after 1 (asks ∷ []) ≡ view (seen 1 (entered Forward false) (wire
-    (DStartForwardRequest (qos_asked 3) 1 3)
+    (Some (DStartForwardRequest (qos_asked 3) 1 3))
     (67 ∷ 212 ∷ 234 ∷ 61 ∷ 218 ∷ 131 ∷ 9 ∷ 139 ∷ 42 ∷ 188 ∷ 222 ∷ 248 ∷ 85 ∷ 46 ∷ []) ∷ [])) (seen 0 closed [])
 unfolding bits_n bits_of acc_of bits_to bytes_of with_bit set_bit put_bits read_bits whole_bits index_bits length_bits bit_field
     extension_bit digits_in whole_number extensible_index length_at length_within run_at string_at string_bits optional_bits
@@ -116,7 +117,7 @@ on_its_way = refl
 
 -- answered: success
 pub answered_success : after 1 (asks ∷ gets false ∷ []) ≡ view (seen 1 (entered Forward false) [])
-    (seen 1 closed (wire (DStartForwardResponse 1 0) (80 ∷ []) ∷ []))
+    (seen 1 closed (wire (Some (DStartForwardResponse 1 0)) (80 ∷ []) ∷ []))
 unfolding bits_n bits_of acc_of bits_to bytes_of with_bit set_bit put_bits read_bits whole_bits index_bits length_bits bit_field
     extension_bit digits_in whole_number extensible_index length_at length_within run_at string_at string_bits optional_bits
     content_bits mode_bits mode_fits pdu_bits padded part_in content_in pdu_in optional_at part_at parts_within data_within
@@ -153,7 +154,7 @@ over_again = refl
 
 -- answered: service not supported
 pub answered_unsupported : after 0 (asks ∷ gets false ∷ []) ≡ view (seen 1 (entered Forward false) [])
-    (seen 1 closed (wire (DStartForwardResponse 1 0) (82 ∷ []) ∷ []))
+    (seen 1 closed (wire (Some (DStartForwardResponse 1 0)) (82 ∷ []) ∷ []))
 unfolding bits_n bits_of acc_of bits_to bytes_of with_bit set_bit put_bits read_bits whole_bits index_bits length_bits bit_field
     extension_bit digits_in whole_number extensible_index length_at length_within run_at string_at string_bits optional_bits
     content_bits mode_bits mode_fits pdu_bits padded part_in content_in pdu_in optional_at part_at parts_within data_within

@@ -27,8 +27,6 @@ use Rattle.apdu.specs.Reading.{leading_at}
 use Rattle.apdu.specs.declared.Kind.TheVariants as kind
 use Rattle.pdus.specs.declared.PduType.{PduType}
 use Rattle.pdus.specs.declared.PduType.TheVariants as pdu
-use Rattle.apdu.specs.declared.Decoded.{Decoded}
-use Rattle.apdu.specs.declared.Decoded.TheVariants as decoded
 use Rattle.apdu.proofs.Theorems.{mode_are_bits, index_are_bits}
 use Rattle.codec.specs.Codec.{user_last, content_bits, start_bits, pdu_bits, apdu_at}
 use Rattle.codec.proofs.Stated.{is_there, content_fits, must_hold, pdu_fits, is_body_is, carries, start_of}
@@ -43,6 +41,9 @@ use Rattle.pair.specs.Names.{Side}
 use Rattle.pair.specs.Carrier.{Body}
 use Rattle.pair.proofs.OneDialogue.{is_nil}
 use Rattle.pair.proofs.StepMachine.{Read, got, fault, Codec}
+use Rattle.std.specs.Prelude.{Err, Ok, Result}
+use Rattle.fields.specs.declared.Refusal.{Refusal}
+use Rattle.apdu.specs.declared.Apdu.{Apdu}
 
 -- ---- writing
 
@@ -88,18 +89,18 @@ value_read ed (send c) = got Send (content_bits ed c)
 value_read ed (forward h m) = got Forward []
 value_read ed (forward_response x) = got (ForwardResponse x) []
 
-abbrev pub read_of : Edition → List ℕ → Decoded → Read
-read_of ed l (decoded.Is a) = value_read ed (pdu_in l l l a)
-read_of ed l (decoded.Refused r) = fault
+abbrev pub read_of : Edition → List ℕ → Result Apdu Refusal → Read
+read_of ed l (Ok a) = value_read ed (pdu_in l l l a)
+read_of ed l (Err r) = fault
 
 -- what the other side reads
 abbrev pub dec : Edition → Side → List ℕ → Read
 dec ed sd [] = got Absent []
 dec ed sd (x ∷ w) = read_of ed (lent (x ∷ w)) (apdu_at ed (pdus_of sd) (lent (x ∷ w)))
 
-abbrev pub is_read : Decoded → Bool
-is_read (decoded.Is a) = true
-is_read (decoded.Refused r) = false
+abbrev pub is_read : Result Apdu Refusal → Bool
+is_read (Ok a) = true
+is_read (Err r) = false
 
 -- no bits are no PDU
 nothing_read : (ed : Edition) (pdus : PduType) → is_read (apdu_at ed pdus (lent [])) ≡ false

@@ -33,17 +33,15 @@ use Rattle.machine.specs.declared.record.Record.{Record}
 use Rattle.machine.specs.declared.event.UserData.{UserData}
 use Rattle.machine.specs.declared.event.UserData.TheVariants.{Absent, NotValid, Start, Send, AbortUser, AbortProvider, Forward, ForwardResponse}
 use Rattle.machine.specs.declared.outcome.StepRefusal.{StepRefusal}
-use Rattle.machine.specs.declared.outcome.StepRefusal.TheVariants.{None, Shape, Stale, Prohibited, NoMessage, Repeat}
+use Rattle.machine.specs.declared.outcome.StepRefusal.TheVariants.{Shape, Stale, Prohibited, NoMessage, Repeat}
 use Rattle.machine.specs.declared.outcome.Invoked.{Invoked}
-use Rattle.machine.specs.declared.outcome.Invoked.TheVariants.{Silent, DStartRequest, DStartResponse, DDataRequest, DEndRequest, DEndResponse, DAbortRequest, DStartForwardRequest, DStartForwardResponse}
+use Rattle.machine.specs.declared.outcome.Invoked.TheVariants.{DStartRequest, DStartResponse, DDataRequest, DEndRequest, DEndResponse, DAbortRequest, DStartForwardRequest, DStartForwardResponse}
 use Rattle.machine.specs.declared.outcome.Told.{Told}
-use Rattle.machine.specs.declared.outcome.Told.TheVariants.{Untold, StartIndication, StartConfirmation, MessageIndication, EndIndication, EndConfirmation, UserAbortIndication, ProviderAbortIndication, ForwardIndication, ForwardConfirmation}
+use Rattle.machine.specs.declared.outcome.Told.TheVariants.{StartIndication, StartConfirmation, MessageIndication, EndIndication, EndConfirmation, UserAbortIndication, ProviderAbortIndication, ForwardIndication, ForwardConfirmation}
 use Rattle.machine.specs.declared.outcome.Outcome.{Outcome}
-use Rattle.stored.specs.Stored.{record_bytes, flag, load_at, store_at}
+use Rattle.stored.specs.Stored.{record_bytes, flag, load_at, store_at, is_stored}
 use Rattle.packed.specs.Packed.{refusals, codes, primitives, counts, packed, invoked_number, told_number, version_number}
 use Rattle.step.specs.Call.{Carried, Called, passes, pdus_of, bits_of_written, nothing_to, pdu_to, first_takes, second_takes, finished, concluded}
-use Rattle.stored.specs.declared.Loaded.{Loaded}
-use Rattle.stored.specs.declared.Loaded.TheVariants.{Is}
 use Rattle.stored.proofs.Storing.{length_stored, loaded_stored}
 use Rattle.packed.proofs.Unpacked.{invoked_low, told_low, refusal_unpacked, invoked_unpacked, told_unpacked, sent_unpacked, given_unpacked, code_unpacked, parameter_unpacked, last_unpacked}
 use Rattle.step.proofs.Taken.{never, Coded, writable, with_body, Brings, GoesOut, Roomy, quiet, Fit}
@@ -53,6 +51,8 @@ use Rattle.pair.proofs.StepMachine.{handed_by}
 use Rattle.card_pair.specs.Answered.{is_taken, invoked_part, told_part_of, sent_bits, given_bits, invoked_of, entry_of, data_in, handed_of}
 use Rattle.card_pair.specs.CardMachine.{in_record}
 use Rattle.card_pair.proofs.Codec.{apdu_bits, zeros, full, front_of, enc}
+use Rattle.std.specs.Prelude.{None, Option, Some}
+use Rattle.stored.specs.declared.Stored.{Stored}
 
 -- ---- a buffer: bs were written to it
 
@@ -106,18 +106,18 @@ module _ (ed : Edition) (sd : Side) (li lm lc : List ℕ) (d : Carried) (hi : Bi
   unfolding first_takes apdu_bits
   absent_is a s e = subst (λ (z : UserData). Wrote (apdu_bits ed sd z body) (first_takes ed sd li lm lc d z s)) (sym e) (nothing_is s)
 
-  goes_is : (u : Bool) (i : Invoked) (a : UserData) (s : List ℕ) → GoesOut ed u sd i a
+  goes_is : (u : Bool) (i : Option Invoked) (a : UserData) (s : List ℕ) → GoesOut ed u sd i a
       → (with_body a ≡ true → content_fits ed (pdus_of sd) (content_in li lm lc d.content) ≡ true)
       → buffer_least ≤ length s → Wrote (apdu_bits ed sd a body) (first_takes ed sd li lm lc d a s)
-  goes_is u Silent a s h own g = absent_is a s h.1
-  goes_is u (DStartRequest q x) a s h own g = first_is a s h own g
-  goes_is u (DStartResponse x y) a s h own g = first_is a s h own g
-  goes_is u DDataRequest a s h own g = first_is a s h own g
-  goes_is u DEndRequest a s h own g = first_is a s h own g
-  goes_is u (DEndResponse x) a s h own g = first_is a s h own g
-  goes_is u (DAbortRequest o) a s h own g = first_is a s h own g
-  goes_is u (DStartForwardRequest q x v) a s h own g = absurd h
-  goes_is u (DStartForwardResponse x v) a s h own g = absurd h
+  goes_is u None a s h own g = absent_is a s h.1
+  goes_is u (Some (DStartRequest q x)) a s h own g = first_is a s h own g
+  goes_is u (Some (DStartResponse x y)) a s h own g = first_is a s h own g
+  goes_is u (Some DDataRequest) a s h own g = first_is a s h own g
+  goes_is u (Some DEndRequest) a s h own g = first_is a s h own g
+  goes_is u (Some (DEndResponse x)) a s h own g = first_is a s h own g
+  goes_is u (Some (DAbortRequest o)) a s h own g = first_is a s h own g
+  goes_is u (Some (DStartForwardRequest q x v)) a s h own g = absurd h
+  goes_is u (Some (DStartForwardResponse x v)) a s h own g = absurd h
 
   -- the second takes message data that are delivered
   second_is : (passed delivers : Bool) (s : List ℕ) → passed ≡ false → buffer_least ≤ length s
@@ -131,54 +131,54 @@ module _ (ed : Edition) (sd : Side) (li lm lc : List ℕ) (d : Carried) (hi : Bi
 
 -- ---- the number's parts
 
-invoked_back : (i : Invoked) → Roomy i → invoked_of (invoked_number i) ≡ i
+invoked_back : (i : Option Invoked) → Roomy i → invoked_of (invoked_number i) ≡ i
 unfolding invoked_number
-invoked_back Silent h = refl
-invoked_back (DStartRequest q s) h =
+invoked_back None h = refl
+invoked_back (Some (DStartRequest q s)) h =
     rw (
       code_unpacked 1 q.routing s (omega arith),
       parameter_unpacked 1 q.routing s (omega arith) h.1,
       last_unpacked 1 q.routing s (omega arith) h.2,
-    ) (ap (λ (z : Qos). DStartRequest z s) (sym h.0))
-invoked_back (DStartResponse x s) h = rw (
+    ) (ap (λ (z : Qos). Some (DStartRequest z s)) (sym h.0))
+invoked_back (Some (DStartResponse x s)) h = rw (
   code_unpacked 2 x s (omega arith),
   parameter_unpacked 2 x s (omega arith)
       h.0,
   last_unpacked 2 x s (omega arith) h.1,
 )
-invoked_back DDataRequest h = refl
-invoked_back DEndRequest h = refl
-invoked_back (DEndResponse x) h = rw (code_unpacked 5 x 0 (omega arith), parameter_unpacked 5 x 0 (omega arith) h)
-invoked_back (DAbortRequest o) h = rw (code_unpacked 6 o 0 (omega arith), parameter_unpacked 6 o 0 (omega arith) h)
-invoked_back (DStartForwardRequest q s v) h = absurd h
-invoked_back (DStartForwardResponse s v) h = absurd h
+invoked_back (Some DDataRequest) h = refl
+invoked_back (Some DEndRequest) h = refl
+invoked_back (Some (DEndResponse x)) h = rw (code_unpacked 5 x 0 (omega arith), parameter_unpacked 5 x 0 (omega arith) h)
+invoked_back (Some (DAbortRequest o)) h = rw (code_unpacked 6 o 0 (omega arith), parameter_unpacked 6 o 0 (omega arith) h)
+invoked_back (Some (DStartForwardRequest q s v)) h = absurd h
+invoked_back (Some (DStartForwardResponse s v)) h = absurd h
 
 -- a message indication is told
 abbrev is_message : ℕ → Bool
 is_message t = eqb (t % codes) 3
 
-told_back : (t : Told) → is_message (told_number t) ≡ not (quiet t)
+told_back : (t : Option Told) → is_message (told_number t) ≡ not (quiet t)
 unfolding told_number
-told_back Untold = refl
-told_back (StartIndication m k) = rw (code_unpacked 1 k (flag m) (omega arith))
-told_back (StartConfirmation m x) = rw (code_unpacked 2 x (flag m) (omega arith))
-told_back MessageIndication = refl
-told_back (EndIndication m) = rw (code_unpacked 4 0 (flag m) (omega arith))
-told_back (EndConfirmation m x) = rw (code_unpacked 5 x (flag m) (omega arith))
-told_back (UserAbortIndication x) = rw (code_unpacked 6 x 0 (omega arith))
-told_back (ProviderAbortIndication x) = rw (code_unpacked 7 x 0 (omega arith))
-told_back ForwardIndication = refl
-told_back (ForwardConfirmation x v) = rw (code_unpacked 9 x 0 (omega arith))
+told_back None = refl
+told_back (Some (StartIndication m k)) = rw (code_unpacked 1 k (flag m) (omega arith))
+told_back (Some (StartConfirmation m x)) = rw (code_unpacked 2 x (flag m) (omega arith))
+told_back (Some MessageIndication) = refl
+told_back (Some (EndIndication m)) = rw (code_unpacked 4 0 (flag m) (omega arith))
+told_back (Some (EndConfirmation m x)) = rw (code_unpacked 5 x (flag m) (omega arith))
+told_back (Some (UserAbortIndication x)) = rw (code_unpacked 6 x 0 (omega arith))
+told_back (Some (ProviderAbortIndication x)) = rw (code_unpacked 7 x 0 (omega arith))
+told_back (Some ForwardIndication) = refl
+told_back (Some (ForwardConfirmation x v)) = rw (code_unpacked 9 x 0 (omega arith))
 
 -- ---- the record
 
 -- the dialogue number in it
-abbrev pub number_in : Loaded → ℕ
+abbrev pub number_in : Option Stored → ℕ
 number_in l = in_record (λ (r : Record) (n : ℕ). n) 0 l
 
 -- the bytes b are those of the record r at side sd and of edition ed, which holds the dialogue number n
 pub record Keeps (ed : Edition) (sd : Side) (b : List ℕ) (r : Record) (n : ℕ) : Type 0 where
-  pub load : load_at b ≡ Is sd r n
+  pub load : load_at b ≡ is_stored sd r n
   pub edition : r.edition ≡ ed
   pub size : length b ≡ record_bytes
   pub coded : Coded r
@@ -214,29 +214,29 @@ take_padded : (bs : List ℕ) → take (length bs) (padded bs) ≡ bs
 unfolding padded
 take_padded bs = take_at bs (bits_n (padding (length bs)) 0) (length bs) refl
 
-handed_told : (t : Told) (delivers sends : Bool) (b x z : Body) → (quiet t || (delivers && sends)) ≡ true
+handed_told : (t : Option Told) (delivers sends : Bool) (b x z : Body) → (quiet t || (delivers && sends)) ≡ true
     → (delivers ≡ true → z ≡ b) → (sends ≡ true → b ≡ x)
     → cond (not (quiet t)) (z ∷ []) [] ≡ cond delivers (handed_by t x) []
-handed_told Untold true s b x z h e f = refl
-handed_told Untold false s b x z h e f = refl
-handed_told (StartIndication m k) true s b x z h e f = refl
-handed_told (StartIndication m k) false s b x z h e f = refl
-handed_told (StartConfirmation m k) true s b x z h e f = refl
-handed_told (StartConfirmation m k) false s b x z h e f = refl
-handed_told MessageIndication true s b x z h e f = ap (λ (y : Body). y ∷ []) (e refl ∙ f h)
-handed_told MessageIndication false s b x z h e f = never h
-handed_told (EndIndication m) true s b x z h e f = refl
-handed_told (EndIndication m) false s b x z h e f = refl
-handed_told (EndConfirmation m k) true s b x z h e f = refl
-handed_told (EndConfirmation m k) false s b x z h e f = refl
-handed_told (UserAbortIndication k) true s b x z h e f = refl
-handed_told (UserAbortIndication k) false s b x z h e f = refl
-handed_told (ProviderAbortIndication k) true s b x z h e f = refl
-handed_told (ProviderAbortIndication k) false s b x z h e f = refl
-handed_told ForwardIndication true s b x z h e f = refl
-handed_told ForwardIndication false s b x z h e f = refl
-handed_told (ForwardConfirmation k v) true s b x z h e f = refl
-handed_told (ForwardConfirmation k v) false s b x z h e f = refl
+handed_told None true s b x z h e f = refl
+handed_told None false s b x z h e f = refl
+handed_told (Some (StartIndication m k)) true s b x z h e f = refl
+handed_told (Some (StartIndication m k)) false s b x z h e f = refl
+handed_told (Some (StartConfirmation m k)) true s b x z h e f = refl
+handed_told (Some (StartConfirmation m k)) false s b x z h e f = refl
+handed_told (Some MessageIndication) true s b x z h e f = ap (λ (y : Body). y ∷ []) (e refl ∙ f h)
+handed_told (Some MessageIndication) false s b x z h e f = never h
+handed_told (Some (EndIndication m)) true s b x z h e f = refl
+handed_told (Some (EndIndication m)) false s b x z h e f = refl
+handed_told (Some (EndConfirmation m k)) true s b x z h e f = refl
+handed_told (Some (EndConfirmation m k)) false s b x z h e f = refl
+handed_told (Some (UserAbortIndication k)) true s b x z h e f = refl
+handed_told (Some (UserAbortIndication k)) false s b x z h e f = refl
+handed_told (Some (ProviderAbortIndication k)) true s b x z h e f = refl
+handed_told (Some (ProviderAbortIndication k)) false s b x z h e f = refl
+handed_told (Some ForwardIndication) true s b x z h e f = refl
+handed_told (Some ForwardIndication) false s b x z h e f = refl
+handed_told (Some (ForwardConfirmation k v)) true s b x z h e f = refl
+handed_told (Some (ForwardConfirmation k v)) false s b x z h e f = refl
 
 module _ (i t s g v : ℕ) (hi : i < primitives) (ht : t < primitives) (hs : s < counts) (hg : g < counts) where
   pub is_taken_is : is_taken (packed i t s g v) ≡ true
@@ -321,13 +321,13 @@ concluded_is r a b ed sd v m o li lm lc d ha hb size low hi hm hc sh own n k =
     (λ (e : with_body o.apdu ≡ true). own (sym k.body ∙ e)) ha)
     (second_is ed sd li lm lc d hi hm hc sh (passes o.told) o.delivers b k.plain hb))
 
-refusal_told : (w : StepRefusal) → is_none w ≡ false → is_taken (refusal_number w) ≡ false
+refusal_told : (w : Option StepRefusal) → is_none w ≡ false → is_taken (refusal_number w) ≡ false
 refusal_told None e = never (sym e)
-refusal_told Shape e = refl
-refusal_told Stale e = refl
-refusal_told Prohibited e = refl
-refusal_told NoMessage e = refl
-refusal_told Repeat e = refl
+refusal_told (Some Shape) e = refl
+refusal_told (Some Stale) e = refl
+refusal_told (Some Prohibited) e = refl
+refusal_told (Some NoMessage) e = refl
+refusal_told (Some Repeat) e = refl
 
 -- one that was refused
 pub concluded_refused : (r a b : List ℕ) (ed : Edition) (sd : Side) (m : ℕ) (o : Outcome) (li lm lc : List ℕ) (d : Carried)

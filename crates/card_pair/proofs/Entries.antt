@@ -8,8 +8,6 @@ use lib.Dec.{T}
 use Rattle.bits.proofs.Numbers.{Bits}
 use Rattle.apdu.specs.Pdus.{lent, content_in}
 use Rattle.apdu.specs.Writing.{data_fits}
-use Rattle.apdu.specs.declared.Decoded.{Decoded}
-use Rattle.apdu.specs.declared.Decoded.TheVariants as decoded
 use Rattle.editions.specs.Editions.{spares}
 use Rattle.editions.specs.declared.Edition.{Edition}
 use Rattle.editions.specs.declared.Edition.TheVariants.{Plain, Protected}
@@ -23,7 +21,7 @@ use Rattle.machine.specs.declared.event.UserData.{UserData}
 use Rattle.machine.specs.declared.event.UserData.TheVariants.{Absent, NotValid, Start, Send, AbortUser, AbortProvider, Forward, ForwardResponse}
 use Rattle.machine.specs.declared.event.Event.{Event}
 use Rattle.machine.specs.declared.outcome.Invoked.{Invoked}
-use Rattle.machine.specs.declared.outcome.Invoked.TheVariants.{Silent, DStartRequest, DStartResponse, DDataRequest, DEndRequest, DEndResponse, DAbortRequest, DStartForwardRequest, DStartForwardResponse}
+use Rattle.machine.specs.declared.outcome.Invoked.TheVariants.{DStartRequest, DStartResponse, DDataRequest, DEndRequest, DEndResponse, DAbortRequest, DStartForwardRequest, DStartForwardResponse}
 use Rattle.machine.specs.declared.outcome.Outcome.{Outcome}
 use Rattle.numbered.specs.Numbers.{is_start, held_after, numbered_step}
 use Rattle.step.specs.Call.{Carried, Called, pdus_of, concluded}
@@ -37,10 +35,13 @@ use Rattle.pair.proofs.OneDialogue.{is_nil}
 use Rattle.pair.proofs.NumberedMachine.{tag, leaves}
 use Rattle.pair.proofs.StepMachine.{Read, got, fault, sent_by, taken, happens}
 use Rattle.pair.proofs.Agree.{SentRel, OutRel}
-use Rattle.card_pair.specs.Answered.{entry_of, handed_of}
+use Rattle.card_pair.specs.Answered.{handed_of}
 use Rattle.card_pair.specs.CardMachine.{Buffers, Kept, marked_entry, put_on, sent_of, left, simply}
 use Rattle.card_pair.proofs.Codec.{fits, apdu_bits, zeros, front_of, enc, read_of, dec, is_read, back, true_holds, card_codec}
 use Rattle.card_pair.proofs.Ends.{number_in, Keeps, Ended, concluded_is, concluded_refused}
+use Rattle.std.specs.Prelude.{Err, Ok, Result, None, Option, Some}
+use Rattle.fields.specs.declared.Refusal.{Refusal}
+use Rattle.apdu.specs.declared.Apdu.{Apdu}
 
 -- ---- entries
 
@@ -66,9 +67,9 @@ read_from : (ed : Edition) (sd : Side) (w : List ℕ) (a : UserData) (y : Body) 
 read_from ed sd [] a y e = refl
 read_from ed sd (x ∷ w) a y e = go (apdu_at ed (pdus_of sd) (lent (x ∷ w))) e
   where
-    go : (z : Decoded) → read_of ed (lent (x ∷ w)) z ≡ got a y → is_read z ≡ true
-    go (decoded.Is z) k = refl
-    go (decoded.Refused r) k = absurd (subst (λ (q : Read). T (is_fault q)) k tt)
+    go : (z : Result Apdu Refusal) → read_of ed (lent (x ∷ w)) z ≡ got a y → is_read z ≡ true
+    go (Ok z) k = refl
+    go (Err r) k = absurd (subst (λ (q : Read). T (is_fault q)) k tt)
 
 -- what a host keeps, and the record with its number
 abbrev pub KeepsAt : Edition → Side → Kept → Numbered Record → Type 0
@@ -116,37 +117,37 @@ bits_same ed sd (ForwardResponse x) b = refl
 -- ---- what is sent
 
 module _ (ed : Edition) (sd : Side) (u : Bool) (a : UserData) (w : Numbered Wire) (m : ℕ) (ys : List ℕ) (y : Body) (j : ℕ) where
-  abbrev pub Entered : Invoked → Type 0
+  abbrev pub Entered : Option Invoked → Type 0
   Entered i = writable ed sd a ≡ true → Carries ed sd w (mark m (record { primitive = i; bytes = ys }))
 
-  plain : (i : Invoked) → GoesOut ed u sd i a → is_ddata i ≡ false → Entered i
+  plain : (i : Option Invoked) → GoesOut ed u sd i a → is_ddata i ≡ false → Entered i
       → SentRel (Carries ed sd) (put_on w i) (tag m (sent_by i ys y j))
-  plain Silent g n f = tt
-  plain (DStartRequest q s) g n f = f g
-  plain (DStartResponse x s) g n f = f g
-  plain DDataRequest g n f = never (sym n)
-  plain DEndRequest g n f = f g
-  plain (DEndResponse x) g n f = f g
-  plain (DAbortRequest o) g n f = f g
-  plain (DStartForwardRequest q s v) g n f = absurd g
-  plain (DStartForwardResponse s v) g n f = absurd g
+  plain None g n f = tt
+  plain (Some (DStartRequest q s)) g n f = f g
+  plain (Some (DStartResponse x s)) g n f = f g
+  plain (Some DDataRequest) g n f = never (sym n)
+  plain (Some DEndRequest) g n f = f g
+  plain (Some (DEndResponse x)) g n f = f g
+  plain (Some (DAbortRequest o)) g n f = f g
+  plain (Some (DStartForwardRequest q s v)) g n f = absurd g
+  plain (Some (DStartForwardResponse s v)) g n f = absurd g
 
-  pub sent_plain : (i : Invoked) → w.it.primitive ≡ i → GoesOut ed u sd i a → is_ddata i ≡ false → Entered i
+  pub sent_plain : (i : Option Invoked) → w.it.primitive ≡ i → GoesOut ed u sd i a → is_ddata i ≡ false → Entered i
       → SentRel (Carries ed sd) (put_on w w.it.primitive) (tag m (sent_by i ys y j))
-  sent_plain i e g n f = subst (λ (z : Invoked). SentRel (Carries ed sd) (put_on w z) (tag m (sent_by i ys y j))) (sym e) (plain i g n f)
+  sent_plain i e g n f = subst (λ (z : Option Invoked). SentRel (Carries ed sd) (put_on w z) (tag m (sent_by i ys y j))) (sym e) (plain i g n f)
 
   -- by a message request
-  pub sent_message : (i : Invoked) → GoesOut ed u sd i a → is_ddata i ≡ true → Entered i
+  pub sent_message : (i : Option Invoked) → GoesOut ed u sd i a → is_ddata i ≡ true → Entered i
       → SentRel (Carries ed sd) (message w y j) (tag m (sent_by i ys y j))
-  sent_message Silent g n f = never n
-  sent_message (DStartRequest q s) g n f = never n
-  sent_message (DStartResponse x s) g n f = never n
-  sent_message DDataRequest g n f = (f g, refl, refl)
-  sent_message DEndRequest g n f = never n
-  sent_message (DEndResponse x) g n f = never n
-  sent_message (DAbortRequest o) g n f = never n
-  sent_message (DStartForwardRequest q s v) g n f = never n
-  sent_message (DStartForwardResponse s v) g n f = never n
+  sent_message None g n f = never n
+  sent_message (Some (DStartRequest q s)) g n f = never n
+  sent_message (Some (DStartResponse x s)) g n f = never n
+  sent_message (Some DDataRequest) g n f = (f g, refl, refl)
+  sent_message (Some DEndRequest) g n f = never n
+  sent_message (Some (DEndResponse x)) g n f = never n
+  sent_message (Some (DAbortRequest o)) g n f = never n
+  sent_message (Some (DStartForwardRequest q s v)) g n f = never n
+  sent_message (Some (DStartForwardResponse s v)) g n f = never n
 
 -- ---- a call that was taken
 

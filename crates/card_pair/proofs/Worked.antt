@@ -43,6 +43,7 @@ use Rattle.pair.specs.Carrier.{Body, Step, user_call, hand_over, timer_expires_o
 use Rattle.pair.specs.Numbered.{NParty, Numbered, mark, n_fresh, n_run}
 use Rattle.pair.specs.Wires.{Wire}
 use Rattle.card_pair.specs.CardMachine.{Buffers, Given, Word, Asked, start_request_of, start_response_of, message_request_of, end_request_of, end_response_of, user_abort_of, body_given, newly, control_in, held_by, card_machine}
+use Rattle.std.specs.Prelude.{Option, Some}
 
 -- ---- the words of a run
 
@@ -117,7 +118,7 @@ after d ts = after_of 1 22 d ts
 abbrev view : Seen → Seen → Bool → View
 view a g b = record { air = a; ground = g; broken = b }
 
-abbrev wire : ℕ → Invoked → List ℕ → Numbered Wire
+abbrev wire : ℕ → Option Invoked → List ℕ → Numbered Wire
 wire n i l = mark n (record { primitive = i; bytes = l })
 
 -- a run and what is seen of a dialogue after it
@@ -193,8 +194,8 @@ abbrev rows : List Row
 rows =
     row 1 opening (view (seen 1 (entered Dialogue false) [] [] (body_given Protected (text 80) ∷ []) [])
     (seen 1 (entered Dialogue false) [] (body_given Protected (text 80) ∷ []) [] (1 ∷ [])) false) ∷
-    row 1 talking (view (seen 1 (entered End false) (wire 1 DDataRequest (108 ∷ 8 ∷ 168 ∷ 12 ∷ 29 ∷ 136 ∷ 69 ∷ 40 ∷ [])
-    ∷ wire 1 DDataRequest (100 ∷ 41 ∷ 141 ∷ 0 ∷ []) ∷ [])
+    row 1 talking (view (seen 1 (entered End false) (wire 1 (Some DDataRequest) (108 ∷ 8 ∷ 168 ∷ 12 ∷ 29 ∷ 136 ∷ 69 ∷ 40 ∷ [])
+    ∷ wire 1 (Some DDataRequest) (100 ∷ 41 ∷ 141 ∷ 0 ∷ []) ∷ [])
     (body_given Protected (text 96) ∷ body_given Protected (signed 98) ∷ body_given Protected (text 99) ∷ [])
     (body_given Protected (text 80) ∷ []) (1 ∷ 2 ∷ 3 ∷ [])) (seen 1 (entered End false) []
     (body_given Protected (text 80) ∷ []) (body_given Protected (text 96) ∷ []) (1 ∷ [])) false) ∷
@@ -205,17 +206,17 @@ rows =
     (body_given Protected (text 96) ∷ body_given Protected (signed 98) ∷ body_given Protected (text 99) ∷ [])
     (1 ∷ [])) false) ∷
     row 2 again (view (seen 2 (entered Dialogue false) [] (body_given Protected (text 71) ∷ []) [] (1 ∷ 2 ∷ 3 ∷ 4 ∷ [])) (
-    seen 2 (entered Dialogue false) (wire 2 DDataRequest (50 ∷ 20 ∷ 146 ∷ 128 ∷ 0 ∷ []) ∷ [])
+    seen 2 (entered Dialogue false) (wire 2 (Some DDataRequest) (50 ∷ 20 ∷ 146 ∷ 128 ∷ 0 ∷ []) ∷ [])
     (body_given Protected (text 73) ∷ []) (body_given Protected (text 71) ∷ []) (1 ∷ 2 ∷ [])) false) ∷
     -- the leftover stands on the ground's line when the new start goes out; afterwards its dialogue is as broken as it was, and the new one is whole
     row 1 (leftover ++ (gets Air ∷ [])) (view (seen 2 (entered StartReq false)
-    (wire 2 (DStartRequest (qos_asked 0) 1) (64 ∷ 0 ∷ []) ∷ []) [] (body_given Protected (text 80) ∷ []) [])
+    (wire 2 (Some (DStartRequest (qos_asked 0) 1)) (64 ∷ 0 ∷ []) ∷ []) [] (body_given Protected (text 80) ∷ []) [])
     (seen 1 closed [] (body_given Protected (text 80) ∷ body_given Protected (text 81) ∷ []) [] (1 ∷ 2 ∷ [])) true)
     ∷
     row 2 late (view (seen 2 (entered Dialogue false) [] [] (body_given Protected (text 82) ∷ []) [])
     (seen 2 (entered Dialogue false) [] (body_given Protected (text 82) ∷ []) [] (1 ∷ 2 ∷ 3 ∷ [])) false) ∷
-    row 1 dsc (view (seen 1 (entered End true) [] [] [] []) (seen 1 (entered Dialogue true) (wire 1 DDataRequest
-    (50 ∷ 20 ∷ 160 ∷ 128 ∷ 0 ∷ []) ∷ wire 1 (DEndResponse 1) (48 ∷ 0 ∷ []) ∷ wire 1 DDataRequest
+    row 1 dsc (view (seen 1 (entered End true) [] [] [] []) (seen 1 (entered Dialogue true) (wire 1 (Some DDataRequest)
+    (50 ∷ 20 ∷ 160 ∷ 128 ∷ 0 ∷ []) ∷ wire 1 (Some (DEndResponse 1)) (48 ∷ 0 ∷ []) ∷ wire 1 (Some DDataRequest)
     (50 ∷ 20 ∷ 162 ∷ 128 ∷ 0 ∷ []) ∷ [])
     (body_given Protected (text 80) ∷ body_given Protected (text 81) ∷ []) [] (5 ∷ 6 ∷ [])) false) ∷
     row 1 dsc_closed (view (seen 1 closed [] [] (body_given Protected (text 80) ∷ body_given Protected (text 81) ∷ []) [])
@@ -223,7 +224,7 @@ rows =
     false) ∷
     -- t-start expires with the start undelivered; a start is turned away; a system error; the carrier fails; a user abort keeps the oldest message
     row 1 (asks Air (start_request_of one cpdlc_mode 0 none) ∷ turn Air (timer_expires_of 0) ∷ [])
-    (view (seen 1 closed (wire 1 (DAbortRequest 1) (32 ∷ []) ∷ []) [] [] []) (seen 0 closed [] [] [] []) true) ∷
+    (view (seen 1 closed (wire 1 (Some (DAbortRequest 1)) (32 ∷ []) ∷ []) [] [] []) (seen 0 closed [] [] [] []) true) ∷
     row 1 (asks Air (start_request_of one dsc_mode 0 none) ∷ turn Air (turn_away 0) ∷ [])
     (view (seen 1 closed [] [] [] []) (seen 0 closed [] [] [] []) false) ∷
     row 1 (opening ++ (turn Ground (error_reported 0) ∷ gets Air ∷ [])) (view
@@ -233,7 +234,7 @@ rows =
     (seen 1 closed [] (body_given Protected (text 80) ∷ []) [] (1 ∷ [])) true) ∷
     row 1 (opening ++ (says Air (job 1 (omega arith)) (text 96) ∷ says Air (job 2 (omega arith)) (text 97) ∷ turn Air
     (user_call (user_abort_of 3) 1) ∷ gets Ground ∷ []))
-    (view (seen 1 closed (wire 1 (DAbortRequest 0) (3 ∷ []) ∷ [])
+    (view (seen 1 closed (wire 1 (Some (DAbortRequest 0)) (3 ∷ []) ∷ [])
     (body_given Protected (text 96) ∷ body_given Protected (text 97) ∷ [])
     (body_given Protected (text 80) ∷ []) (1 ∷ 2 ∷ [])) (seen 1 (entered Dialogue false) []
     (body_given Protected (text 80) ∷ []) (body_given Protected (text 96) ∷ []) (1 ∷ [])) true) ∷ []
@@ -296,12 +297,12 @@ bare_closed = bare_end ++ (gets Ground ∷ asks Ground (end_response_of true 0 n
 abbrev plain_rows : List Row
 plain_rows =
     row 1 (asks Air (start_request_of one dsc_mode 3 none) ∷ []) (view
-    (seen 1 (entered StartReq true) (wire 1 (DStartRequest (qos_asked 3) 0) (88 ∷ []) ∷ []) [] [] [])
+    (seen 1 (entered StartReq true) (wire 1 (Some (DStartRequest (qos_asked 3) 0)) (88 ∷ []) ∷ []) [] [] [])
     (seen 0 closed [] [] [] []) false) ∷
     row 1 (asks Air (start_request_of one dsc_mode 3 (signed 98)) ∷ []) (view (seen 0 closed [] [] [] []) (seen 0 closed [] [] [] []) false) ∷
     row 1 bare (view (seen 1 (entered StartReq true) [] [] [] [])
-    (seen 1 (entered Dialogue true) (wire 1 (DStartResponse 0 0) [] ∷ []) [] [] []) false) ∷
-    row 1 bare_end (view (seen 1 (entered End true) (wire 1 DEndRequest [] ∷ []) [] [] [])
+    (seen 1 (entered Dialogue true) (wire 1 (Some (DStartResponse 0 0)) [] ∷ []) [] [] []) false) ∷
+    row 1 bare_end (view (seen 1 (entered End true) (wire 1 (Some DEndRequest) [] ∷ []) [] [] [])
     (seen 1 (entered Dialogue true) [] [] [] []) false) ∷
     row 1 bare_closed (view (seen 1 closed [] [] [] []) (seen 1 closed [] [] [] []) false) ∷ []
 

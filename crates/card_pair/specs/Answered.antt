@@ -1,10 +1,10 @@
 -- What a host takes out of a call's answer: the parts of the number (crate step, Packed), and the first bytes of the two buffers.
-use Rattle.std.specs.Prelude.{ℕ, zero, suc, ◌*◌, ◌/◌, ◌%◌, Bool, cond, List, [], ◌∷◌, eqb, take}
+use Rattle.std.specs.Prelude.{ℕ, zero, suc, ◌*◌, ◌/◌, ◌%◌, Bool, cond, List, [], ◌∷◌, eqb, take, None, Option, Some}
 use Rattle.apdu.specs.Pdus.{lent}
 use Rattle.apdu.specs.Encoding.{bytes_for}
 use Rattle.machine.specs.Calls.{qos_asked}
 use Rattle.machine.specs.declared.outcome.Invoked.{Invoked}
-use Rattle.machine.specs.declared.outcome.Invoked.TheVariants.{Silent, DStartRequest, DStartResponse, DDataRequest, DEndRequest, DEndResponse, DAbortRequest}
+use Rattle.machine.specs.declared.outcome.Invoked.TheVariants.{DStartRequest, DStartResponse, DDataRequest, DEndRequest, DEndResponse, DAbortRequest}
 use Rattle.step.specs.Call.{Called}
 use Rattle.packed.specs.Packed.{refusals, codes, primitives, counts}
 use Rattle.pair.specs.Carrier.{Body}
@@ -29,16 +29,16 @@ given_bits n = n / (refusals * primitives * primitives * counts) % counts
 
 -- the primitive of a code, with its parameter and security value. A D-START request has the quality of service that document 01 calls
 -- right, with the routing class of the number
-abbrev pub primitive_of : ℕ → ℕ → ℕ → Invoked
-primitive_of zero x s = Silent
-primitive_of (suc zero) x s = DStartRequest (qos_asked x) s
-primitive_of (suc (suc zero)) x s = DStartResponse x s
-primitive_of (suc (suc (suc zero))) x s = DDataRequest
-primitive_of (suc (suc (suc (suc zero)))) x s = DEndRequest
-primitive_of (suc (suc (suc (suc (suc zero))))) x s = DEndResponse x
-primitive_of (suc (suc (suc (suc (suc (suc n)))))) x s = DAbortRequest x
+abbrev pub primitive_of : ℕ → ℕ → ℕ → Option Invoked
+primitive_of zero x s = None
+primitive_of (suc zero) x s = Some (DStartRequest (qos_asked x) s)
+primitive_of (suc (suc zero)) x s = Some (DStartResponse x s)
+primitive_of (suc (suc (suc zero))) x s = Some DDataRequest
+primitive_of (suc (suc (suc (suc zero)))) x s = Some DEndRequest
+primitive_of (suc (suc (suc (suc (suc zero))))) x s = Some (DEndResponse x)
+primitive_of (suc (suc (suc (suc (suc (suc n)))))) x s = Some (DAbortRequest x)
 
-abbrev pub invoked_of : ℕ → Invoked
+abbrev pub invoked_of : ℕ → Option Invoked
 invoked_of i = primitive_of (i % codes) (i / codes % codes) (i / (codes * codes) % 2)
 
 -- what goes on the line: the primitive, and the bytes of the APDU in the first buffer

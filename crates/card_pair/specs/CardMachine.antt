@@ -1,7 +1,7 @@
 -- The exported calls at the two ends of the carrier. A record is its bytes, as the host keeps them; an entry of a line is a primitive's
 -- numbers, the bytes of its user data and its dialogue number; a user call is an exported call with its arguments. What a call sends and
 -- hands out is taken out of its answer, and the dialogue number of what it sends out of the record's bytes.
-use Rattle.std.specs.Prelude.{ℕ, suc, ◌^◌, ◌≤◌, ◌<◌, Bool, cond, List, [], length}
+use Rattle.std.specs.Prelude.{ℕ, suc, ◌^◌, ◌≤◌, ◌<◌, Bool, cond, List, [], length, None, Option, Some}
 use Rattle.apdu.specs.Sizes.{buffer_least}
 use Rattle.apdu.specs.Pdus.{lent, content_in}
 use Rattle.plain.specs.Plain.{is_empty}
@@ -15,17 +15,16 @@ use Rattle.machine.specs.declared.event.Event.TheVariants.{User, TimerExpires, U
 use Rattle.machine.specs.declared.event.ServicePrimitive.{ServicePrimitive}
 use Rattle.machine.specs.declared.event.ServicePrimitive.TheVariants.{DPAbortIndication}
 use Rattle.machine.specs.declared.outcome.Invoked.{Invoked}
-use Rattle.machine.specs.declared.outcome.Invoked.TheVariants.{Silent, DStartRequest, DStartResponse, DDataRequest, DEndRequest, DEndResponse, DAbortRequest, DStartForwardRequest, DStartForwardResponse}
+use Rattle.machine.specs.declared.outcome.Invoked.TheVariants.{DStartRequest, DStartResponse, DDataRequest, DEndRequest, DEndResponse, DAbortRequest, DStartForwardRequest, DStartForwardResponse}
 use Rattle.stored.specs.Stored.{load_at}
 use Rattle.step.specs.Call.{Called, service_call}
-use Rattle.stored.specs.declared.Loaded.{Loaded}
-use Rattle.stored.specs.declared.Loaded.TheVariants.{Is, NoRecord}
 use Rattle.card.specs.Face.{given_data, numbered_call, data_call, plain_call, message_requested, abort_requested, holds_message}
 use Rattle.pair.specs.Names.{Side, Control, closed}
 use Rattle.pair.specs.Carrier.{Body, Sent, nothing, puts, message, Outcome, refused, acts}
 use Rattle.pair.specs.Numbered.{NMachine, Numbered, mark}
 use Rattle.pair.specs.Wires.{Wire, sort_of, arrives, rejects}
 use Rattle.card_pair.specs.Answered.{is_taken, entry_of, handed_of}
+use Rattle.stored.specs.declared.Stored.{Stored}
 
 -- ---- what the host gives
 
@@ -68,9 +67,9 @@ abbrev pub newly : List ℕ → Kept
 newly b = record { bytes = b; calls = 0 }
 
 -- what is looked at in a record that was loaded; x where there is none
-abbrev pub in_record : {A : Type 0} → (Record → ℕ → A) → A → Loaded → A
-in_record f x (Is sd r n) = f r n
-in_record f x NoRecord = x
+abbrev pub in_record : {A : Type 0} → (Record → ℕ → A) → A → Option Stored → A
+in_record f x (Some z) = f z.machine z.number
+in_record f x None = x
 
 -- the dialogue number that the bytes of a record hold, and its edition, as the header's readers take them out of the bytes
 abbrev pub held_by : List ℕ → ℕ
@@ -98,16 +97,16 @@ abbrev pub marked_entry : Called → Numbered Wire
 marked_entry c = mark (held_by c.kept) (entry_of c)
 
 -- nothing, or the primitive that the call invoked
-abbrev pub put_on : Numbered Wire → Invoked → Sent (Numbered Wire)
-put_on e Silent = nothing
-put_on e (DStartRequest q s) = puts e
-put_on e (DStartResponse x s) = puts e
-put_on e DDataRequest = puts e
-put_on e DEndRequest = puts e
-put_on e (DEndResponse x) = puts e
-put_on e (DAbortRequest o) = puts e
-put_on e (DStartForwardRequest q s v) = puts e
-put_on e (DStartForwardResponse s v) = puts e
+abbrev pub put_on : Numbered Wire → Option Invoked → Sent (Numbered Wire)
+put_on e None = nothing
+put_on e (Some (DStartRequest q s)) = puts e
+put_on e (Some (DStartResponse x s)) = puts e
+put_on e (Some DDataRequest) = puts e
+put_on e (Some DEndRequest) = puts e
+put_on e (Some (DEndResponse x)) = puts e
+put_on e (Some (DAbortRequest o)) = puts e
+put_on e (Some (DStartForwardRequest q s v)) = puts e
+put_on e (Some (DStartForwardResponse s v)) = puts e
 
 abbrev pub sent_of : Called → Sent (Numbered Wire)
 sent_of c = put_on (marked_entry c) (entry_of c).primitive
@@ -131,7 +130,7 @@ simply n c = left n c (sent_of c)
 
 -- ---- the machine; p: the security value of both ends; host: the buffers that a side lends to its next call after so many
 
-abbrev pub control_in : Loaded → Control
+abbrev pub control_in : Option Stored → Control
 control_in l = in_record (λ (r : Record) (n : ℕ). r.control) closed l
 
 -- an entry without bytes has no user data

@@ -1,14 +1,14 @@
 -- The exported calls of two ground cards at the two ends of the carrier (document 02, E8). As in CardMachine a record is its bytes, an
 -- entry of a line a primitive's numbers, the bytes of its user data and its dialogue number. Between two ground ends a forward request is
 -- the only start; so a D-START request is a forward's, and a D-START response its answer.
-use Rattle.std.specs.Prelude.{ℕ, suc, ◌*◌, ◌/◌, Bool, true, false, cond, List, []}
+use Rattle.std.specs.Prelude.{ℕ, suc, ◌*◌, ◌/◌, Bool, true, false, cond, List, [], None, Option, Some}
 use Rattle.apdu.specs.declared.Heading.{Heading}
 use Rattle.machine.specs.declared.event.Event.{Event}
 use Rattle.machine.specs.declared.event.Event.TheVariants.{TimerExpires, UnrecoverableSystemError}
 use Rattle.machine.specs.declared.event.ServicePrimitive.{ServicePrimitive}
 use Rattle.machine.specs.declared.event.ServicePrimitive.TheVariants.{DPAbortIndication}
 use Rattle.machine.specs.declared.outcome.Invoked.{Invoked}
-use Rattle.machine.specs.declared.outcome.Invoked.TheVariants.{Silent, DStartRequest, DStartResponse, DDataRequest, DEndRequest, DEndResponse, DAbortRequest, DStartForwardRequest, DStartForwardResponse}
+use Rattle.machine.specs.declared.outcome.Invoked.TheVariants.{DStartRequest, DStartResponse, DDataRequest, DEndRequest, DEndResponse, DAbortRequest, DStartForwardRequest, DStartForwardResponse}
 use Rattle.stored.specs.Stored.{load_at}
 use Rattle.packed.specs.Packed.{refusals, primitives, counts}
 use Rattle.step.specs.Call.{Called, service_call, forward_call}
@@ -56,16 +56,16 @@ new_desk b w = record { kept = newly b; lends = w }
 abbrev pub version_part : ℕ → ℕ
 version_part n = n / (refusals * primitives * primitives * counts * counts)
 
-abbrev pub between_centres : ℕ → Invoked → Invoked
-between_centres v Silent = Silent
-between_centres v (DStartRequest q s) = DStartForwardRequest q s v
-between_centres v (DStartResponse x s) = DStartForwardResponse s v
-between_centres v DDataRequest = DDataRequest
-between_centres v DEndRequest = DEndRequest
-between_centres v (DEndResponse x) = DEndResponse x
-between_centres v (DAbortRequest o) = DAbortRequest o
-between_centres v (DStartForwardRequest q s w) = DStartForwardRequest q s w
-between_centres v (DStartForwardResponse s w) = DStartForwardResponse s w
+abbrev pub between_centres : ℕ → Option Invoked → Option Invoked
+between_centres v None = None
+between_centres v (Some (DStartRequest q s)) = Some (DStartForwardRequest q s v)
+between_centres v (Some (DStartResponse x s)) = Some (DStartForwardResponse s v)
+between_centres v (Some DDataRequest) = Some DDataRequest
+between_centres v (Some DEndRequest) = Some DEndRequest
+between_centres v (Some (DEndResponse x)) = Some (DEndResponse x)
+between_centres v (Some (DAbortRequest o)) = Some (DAbortRequest o)
+between_centres v (Some (DStartForwardRequest q s w)) = Some (DStartForwardRequest q s w)
+between_centres v (Some (DStartForwardResponse s w)) = Some (DStartForwardResponse s w)
 
 abbrev pub centre_entry : Called → Numbered Wire
 centre_entry c = mark (held_by c.kept) (record { primitive = between_centres (version_part c.number) (entry_of c).primitive; bytes = (entry_of c).bytes })

@@ -3,8 +3,7 @@ use Rattle.std.specs.Prelude.{ℕ, ◌≡◌, false, List}
 use Rattle.editions.specs.declared.Edition.{Edition}
 use Rattle.machine.specs.Run.{Formed}
 use Rattle.machine.specs.declared.record.Record.{Record}
-use Rattle.stored.specs.Stored.{load_at}
-use Rattle.stored.specs.declared.Loaded.TheVariants.{Is}
+use Rattle.stored.specs.Stored.{load_at, is_stored}
 use Rattle.pair.specs.Names.{Side, Air, Ground, closed}
 use Rattle.pair.specs.Numbered.{NSys, NClaims}
 use Rattle.card_pair.specs.CardMachine.{Buffers, card_machine}
@@ -14,7 +13,7 @@ use Rattle.card_pair.specs.CardMachine.{Buffers, card_machine}
 pub record Begins (p : ℕ) (ed : Edition) (sd : Side) (b : List ℕ) : Type 0 where
   pub held : Record
   pub number : ℕ
-  pub load : load_at b ≡ Is sd held number
+  pub load : load_at b ≡ is_stored sd held number
   pub edition : held.edition ≡ ed
   pub policy : held.policy ≡ p
   pub idle : held.control ≡ closed
@@ -26,7 +25,7 @@ pub record Begins (p : ℕ) (ed : Edition) (sd : Side) (b : List ℕ) : Type 0 w
 pub record Stands (p : ℕ) (ed : Edition) (sd : Side) (b : List ℕ) : Type 0 where
   pub held : Record
   pub number : ℕ
-  pub load : load_at b ≡ Is sd held number
+  pub load : load_at b ≡ is_stored sd held number
   pub edition : held.edition ≡ ed
   pub policy : held.policy ≡ p
   pub formed : Formed held

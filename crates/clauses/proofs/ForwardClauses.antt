@@ -30,9 +30,10 @@ use Rattle.machine.specs.declared.event.UserPrimitive.TheVariants.{StartServiceR
 use Rattle.machine.specs.declared.event.ServicePrimitive.TheVariants.{DStartIndication, DStartConfirmation}
 use Rattle.machine.specs.declared.event.Event.TheVariants.{User, Service}
 use Rattle.machine.specs.declared.event.Event.TheVariants.{Forward as ForwardRequested}
-use Rattle.machine.specs.declared.faults.Fault.TheVariants.{NoFault, NotPermitted}
+use Rattle.machine.specs.declared.faults.Fault.TheVariants.{NotPermitted}
 use Rattle.machine.specs.declared.outcome.StepRefusal.TheVariants.{Prohibited}
-use Rattle.machine.specs.declared.outcome.Told.TheVariants.{Untold, ProviderAbortIndication, ForwardIndication}
+use Rattle.machine.specs.declared.outcome.Told.TheVariants.{ProviderAbortIndication, ForwardIndication}
+use Rattle.std.specs.Prelude.{None, Some}
 
 -- ---- the request: 2.3.5.5.13.1; elsewhere, and at the air machine, it is prohibited
 
@@ -42,12 +43,12 @@ unfolding step refusal_of event_fits permitted message_refusal acts
 request_taken r k s h g i = rw (h, g, i)
 
 pub request_prohibited : (r : Record) (k s : ℕ) → ltb k routing_classes ≡ true → ltb s security_values ≡ true
-    → is_idle r.control ≡ false → step Ground r (ForwardRequested k s) ≡ refused Prohibited r
+    → is_idle r.control ≡ false → step Ground r (ForwardRequested k s) ≡ refused (Some Prohibited) r
 unfolding step refusal_of event_fits permitted
 request_prohibited r k s h g i = rw (h, g, i)
 
 pub request_at_air : (r : Record) (k s : ℕ) → ltb k routing_classes ≡ true → ltb s security_values ≡ true
-    → step Air r (ForwardRequested k s) ≡ refused Prohibited r
+    → step Air r (ForwardRequested k s) ≡ refused (Some Prohibited) r
 unfolding step refusal_of event_fits permitted
 request_at_air r k s h g = rw (h, g)
 
@@ -74,36 +75,36 @@ only_abort sd d (UserAbortServiceRequest g x) e = absurd (subst T e tt)
 module _ (r : Record) (s v : ℕ) (q : Qos) (h : service_fits (DStartIndication facility s q v) ≡ true) (i : is_idle r.control ≡ true) (g : qos_fits q ≡ true) (y : differs (secures r.edition) s r.policy ≡ false) where
   arrives : step Ground r (Service (DStartIndication facility s q v) Forward) ≡ forward_arrives r s v
   unfolding event_fits user_data_fits first_fault indication_fault start_fits_of pdu_fault answered instructed
-  arrives = fault_answered Ground r (DStartIndication facility s q v) Forward NoFault (rw h) (rw (i, g, y))
+  arrives = fault_answered Ground r (DStartIndication facility s q v) Forward None (rw h) (rw (i, g, y))
 
   -- 2.3.5.5.2.4, whatever the version
   pub not_supported : r.forwards ≡ false
-      → step Ground r (Service (DStartIndication facility s q v) Forward) ≡ responds r service_not_supported s no_version Untold
+      → step Ground r (Service (DStartIndication facility s q v) Forward) ≡ responds r service_not_supported s no_version None
   unfolding forward_arrives
   not_supported n = arrives ∙ rw n
 
   -- 2.3.5.5.2.3 a): the user is told, and does not become active
   pub supported : r.forwards ≡ true → eqb v r.version ≡ true
-      → step Ground r (Service (DStartIndication facility s q v) Forward) ≡ responds r success s no_version ForwardIndication
+      → step Ground r (Service (DStartIndication facility s q v) Forward) ≡ responds r success s no_version (Some ForwardIndication)
   unfolding forward_arrives
   supported n e = arrives ∙ rw (n, e)
 
   -- 2.3.5.5.2.3 b): the response carries the own version
   pub other_version : r.forwards ≡ true → eqb v r.version ≡ false
-      → step Ground r (Service (DStartIndication facility s q v) Forward) ≡ responds r version_not_equal s r.version Untold
+      → step Ground r (Service (DStartIndication facility s q v) Forward) ≡ responds r version_not_equal s r.version None
   unfolding forward_arrives
   other_version n e = arrives ∙ rw (n, e)
 
   -- any other valid PDU of a centre is not permitted
   pub not_forward : (a : UserData) → user_data_fits r.edition a ≡ true → is_missing a ≡ false → is_invalid a ≡ false
       → is_forward a ≡ false
-      → step Ground r (Service (DStartIndication facility s q v) a) ≡ aborts r protocol_error (tell r (ProviderAbortIndication protocol_error))
+      → step Ground r (Service (DStartIndication facility s q v) a) ≡ aborts r protocol_error (tell r (Some (ProviderAbortIndication protocol_error)))
   unfolding event_fits first_fault indication_fault start_fits_of pdu_fault answered excepts
-  not_forward a w m n f = fault_answered Ground r (DStartIndication facility s q v) a (NotPermitted true) (rw (h, w))
+  not_forward a w m n f = fault_answered Ground r (DStartIndication facility s q v) a (Some (NotPermitted true)) (rw (h, w))
       (rw (i, g, y, m, n, f))
 
 pub answer_inactive : (r : Record) (x s v : ℕ)
-    → ((responds r x s v ForwardIndication).next.active ≡ false) × (is_idle (responds r x s v ForwardIndication).next.control ≡ true)
+    → ((responds r x s v (Some ForwardIndication)).next.active ≡ false) × (is_idle (responds r x s v (Some ForwardIndication)).next.control ≡ true)
 unfolding responds enter
 answer_inactive r x s v = (refl, refl)
 
@@ -114,7 +115,7 @@ pub confirmed : (sd : Side) (r : Record) (d : Bool) (s v x : ℕ) → r.control 
     → differs (secures r.edition) s r.request ≡ false
     → step sd r (Service (DStartConfirmation permanent 0 s v) (ForwardResponse x)) ≡ forward_confirmed r x v
 unfolding event_fits service_fits user_data_fits first_fault confirmation_fault response_fault pdu_fault answered instructed reply_of
-confirmed sd r d s v x c h g w y = fault_answered sd r (DStartConfirmation permanent 0 s v) (ForwardResponse x) NoFault
+confirmed sd r d s v x c h g w y = fault_answered sd r (DStartConfirmation permanent 0 s v) (ForwardResponse x) None
     (rw (h, g, w)) (rw (c, y))
 
 -- the timer is stopped, the user is not active, and IDLE
@@ -128,7 +129,7 @@ pub accepted_not_permitted : (sd : Side) (r : Record) (d : Bool) (s v x : ℕ) �
     → ltb s security_values ≡ true → ltb v versions ≡ true → ltb x forward_results ≡ true
     → differs (secures r.edition) s r.request ≡ false
     → step sd r (Service (DStartConfirmation accepted 0 s v) (ForwardResponse x)) ≡ aborts r protocol_error
-    (tell r (ProviderAbortIndication protocol_error))
+    (tell r (Some (ProviderAbortIndication protocol_error)))
 unfolding event_fits service_fits user_data_fits first_fault confirmation_fault response_fault pdu_fault answered excepts reply_of
 accepted_not_permitted sd r d s v x c h g w y = fault_answered sd r (DStartConfirmation accepted 0 s v)
-    (ForwardResponse x) (NotPermitted true) (rw (h, g, w)) (rw (c, y))
+    (ForwardResponse x) (Some (NotPermitted true)) (rw (h, g, w)) (rw (c, y))

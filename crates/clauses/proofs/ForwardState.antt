@@ -35,14 +35,14 @@ use Rattle.machine.specs.declared.event.ServicePrimitive.{ServicePrimitive}
 use Rattle.machine.specs.declared.event.ServicePrimitive.TheVariants.{DStartIndication, DStartConfirmation, DDataIndication, DEndIndication, DEndConfirmation}
 use Rattle.machine.specs.declared.event.Event.TheVariants.{Service}
 use Rattle.machine.specs.declared.event.Event.TheVariants.{Forward as ForwardRequested}
-use Rattle.machine.specs.declared.faults.Fault.TheVariants.{NoFault, NoInstruction}
-use Rattle.machine.specs.declared.outcome.StepRefusal.TheVariants.{None}
-use Rattle.machine.specs.declared.outcome.Invoked.TheVariants.{Silent, DAbortRequest, DStartForwardRequest, DStartForwardResponse}
+use Rattle.machine.specs.declared.faults.Fault.TheVariants.{NoInstruction}
+use Rattle.machine.specs.declared.outcome.Invoked.TheVariants.{DAbortRequest, DStartForwardRequest, DStartForwardResponse}
 use Rattle.machine.specs.declared.outcome.Told.{Told}
-use Rattle.machine.specs.declared.outcome.Told.TheVariants.{Untold, ProviderAbortIndication, ForwardIndication, ForwardConfirmation}
+use Rattle.machine.specs.declared.outcome.Told.TheVariants.{ProviderAbortIndication, ForwardIndication, ForwardConfirmation}
 use Rattle.machine.specs.declared.outcome.Outcome.{Outcome}
 use Rattle.clauses.proofs.Clauses.{fault_answered}
 use Rattle.clauses.proofs.ForwardClauses.{request_taken, not_supported, supported, other_version, confirmed}
+use Rattle.std.specs.Prelude.{None, Option, Some}
 
 -- ---- the row of FORWARD, at either side and with either DSC
 
@@ -105,25 +105,25 @@ abbrev pub left : Record → Record
 left r = record { control = entered Idle false; timer = false; active = false; highest = r.highest; request = r.request; policy = r.policy; forwards = r.forwards; version = r.version; edition = r.edition }
 
 abbrev pub protocol_erred : Record → Outcome
-protocol_erred r = record { refusal = None; next = left r; invoked = DAbortRequest 1; told = cond r.active (ProviderAbortIndication 3) Untold; apdu = AbortProvider 3; delivers = false }
+protocol_erred r = record { refusal = None; next = left r; invoked = Some (DAbortRequest 1); told = cond r.active (Some (ProviderAbortIndication 3)) None; apdu = AbortProvider 3; delivers = false }
 
 module _ (sd : Side) (r : Record) (d : Bool) (c : r.control ≡ entered FORWARD d) (a : UserData) (w : user_data_fits r.edition a ≡ true) where
   pub data_in_forward : step sd r (Service DDataIndication a) ≡ protocol_erred r
   unfolding event_fits service_fits first_fault send_fault answered no_instruction excepts abortsWith tell enter
-  data_in_forward = fault_answered sd r DDataIndication a (NoInstruction true) (rw w) (rw c) ∙ rw c
+  data_in_forward = fault_answered sd r DDataIndication a (Some (NoInstruction true)) (rw w) (rw c) ∙ rw c
 
   pub end_in_forward : step sd r (Service DEndIndication a) ≡ protocol_erred r
   unfolding event_fits service_fits first_fault send_fault answered no_instruction excepts abortsWith tell enter
-  end_in_forward = fault_answered sd r DEndIndication a (NoInstruction true) (rw w) (rw c) ∙ rw c
+  end_in_forward = fault_answered sd r DEndIndication a (Some (NoInstruction true)) (rw w) (rw c) ∙ rw c
 
   pub end_confirmed_in_forward : (x : ℕ) → ltb x results ≡ true → step sd r (Service (DEndConfirmation x) a) ≡ protocol_erred r
   unfolding event_fits service_fits first_fault send_fault answered no_instruction excepts abortsWith tell enter
-  end_confirmed_in_forward x h = fault_answered sd r (DEndConfirmation x) a (NoInstruction true) (rw (h, w)) (rw c) ∙ rw c
+  end_confirmed_in_forward x h = fault_answered sd r (DEndConfirmation x) a (Some (NoInstruction true)) (rw (h, w)) (rw c) ∙ rw c
 
   pub start_in_forward : (x s v : ℕ) (q : Qos) → service_fits (DStartIndication x s q v) ≡ true
       → step sd r (Service (DStartIndication x s q v) a) ≡ protocol_erred r
   unfolding event_fits first_fault indication_fault answered no_instruction excepts abortsWith tell enter
-  start_in_forward x s v q h = fault_answered sd r (DStartIndication x s q v) a (NoInstruction true) (rw (h, w)) (rw c) ∙ rw c
+  start_in_forward x s v q h = fault_answered sd r (DStartIndication x s q v) a (Some (NoInstruction true)) (rw (h, w)) (rw c) ∙ rw c
 
 -- ---- 2.3.5.5.13.1, the request in IDLE: D-START request with priority 1, residual error rate 1, the class, the security value and the own
 -- version, the forward as user data; t-start runs, the user is active, the security value is kept; FORWARD
@@ -132,8 +132,8 @@ pub requested_is : (r : Record) (k s : ℕ) → ltb k routing_classes ≡ true �
     → step Ground r (ForwardRequested k s) ≡ record {
       refusal = None;
       next = record { control = record { state = FORWARD; dsc = r.control.dsc }; timer = true; active = true; highest = r.highest; request = security_sent (secures r.edition) s; policy = r.policy; forwards = r.forwards; version = r.version; edition = r.edition };
-      invoked = DStartForwardRequest (record { priority = 1; rer = 1; routing = k }) (security_sent (secures r.edition) s) r.version;
-      told = Untold;
+      invoked = Some (DStartForwardRequest (record { priority = 1; rer = 1; routing = k }) (security_sent (secures r.edition) s) r.version);
+      told = None;
       apdu = Forward;
       delivers = false;
     }
@@ -142,24 +142,24 @@ requested_is r k s h g i = request_taken r k s h g i
 
 -- ---- 2.3.5.5.2.3, 2.3.5.5.2.4, the indication at an IDLE ground machine: the D-START response with the security value, and the result
 
-abbrev pub answers : Record → ℕ → ℕ → ℕ → Told → Outcome
-answers r result s v t = record { refusal = None; next = left r; invoked = DStartForwardResponse (security_sent (secures r.edition) s) v; told = t; apdu = ForwardResponse result; delivers = false }
+abbrev pub answers : Record → ℕ → ℕ → ℕ → Option Told → Outcome
+answers r result s v t = record { refusal = None; next = left r; invoked = Some (DStartForwardResponse (security_sent (secures r.edition) s) v); told = t; apdu = ForwardResponse result; delivers = false }
 
 module _ (r : Record) (s v : ℕ) (q : Qos) (h : service_fits (DStartIndication facility s q v) ≡ true) (i : is_idle r.control ≡ true) (g : qos_fits q ≡ true) (y : differs (secures r.edition) s r.policy ≡ false) where
   -- service-not-supported (1), no version, nobody is told
-  pub unsupported_is : r.forwards ≡ false → step Ground r (Service (DStartIndication facility s q v) Forward) ≡ answers r 1 s 0 Untold
+  pub unsupported_is : r.forwards ≡ false → step Ground r (Service (DStartIndication facility s q v) Forward) ≡ answers r 1 s 0 None
   unfolding responds enter
   unsupported_is n = not_supported r s v q h i g y n
 
   -- success (0), no version, the user is told
   pub supported_is : r.forwards ≡ true → eqb v r.version ≡ true
-      → step Ground r (Service (DStartIndication facility s q v) Forward) ≡ answers r 0 s 0 ForwardIndication
+      → step Ground r (Service (DStartIndication facility s q v) Forward) ≡ answers r 0 s 0 (Some ForwardIndication)
   unfolding responds enter
   supported_is n e = supported r s v q h i g y n e
 
   -- version-not-equal (2) with the own version, nobody is told
   pub unequal_is : r.forwards ≡ true → eqb v r.version ≡ false
-      → step Ground r (Service (DStartIndication facility s q v) Forward) ≡ answers r 2 s r.version Untold
+      → step Ground r (Service (DStartIndication facility s q v) Forward) ≡ answers r 2 s r.version None
   unfolding responds enter
   unequal_is n e = other_version r s v q h i g y n e
 
@@ -168,6 +168,6 @@ module _ (r : Record) (s v : ℕ) (q : Qos) (h : service_fits (DStartIndication 
 pub confirmed_is : (sd : Side) (r : Record) (d : Bool) (s v x : ℕ) → r.control ≡ entered FORWARD d
     → ltb s security_values ≡ true → ltb v versions ≡ true → ltb x forward_results ≡ true
     → differs (secures r.edition) s r.request ≡ false
-    → step sd r (Service (DStartConfirmation permanent 0 s v) (ForwardResponse x)) ≡ record { refusal = None; next = left r; invoked = Silent; told = ForwardConfirmation x v; apdu = Absent; delivers = false }
+    → step sd r (Service (DStartConfirmation permanent 0 s v) (ForwardResponse x)) ≡ record { refusal = None; next = left r; invoked = None; told = Some (ForwardConfirmation x v); apdu = Absent; delivers = false }
 unfolding forward_confirmed closes enter
 confirmed_is sd r d s v x c h g w y = confirmed sd r d s v x c h g w y

@@ -14,24 +14,25 @@ use Rattle.machine.specs.declared.event.UserData.{UserData}
 use Rattle.machine.specs.declared.event.UserData.TheVariants.{Absent, NotValid, Send}
 use Rattle.machine.specs.declared.faults.Fault.{Fault}
 use Rattle.machine.specs.declared.faults.Fault.TheVariants.{Missing, Invalid}
+use Rattle.std.specs.Prelude.{Option, Some}
 
 -- ---- user data that may be left out
 
 -- then a PDU that is not there is no fault, and what is behind decides; else it is missing
-pub may_be_absent : (fits i u : Bool) (f : Fault) → pdu_fault true fits i u Absent f ≡ f
+pub may_be_absent : (fits i u : Bool) (f : Option Fault) → pdu_fault true fits i u Absent f ≡ f
 unfolding pdu_fault
 may_be_absent fits i u f = refl
 
-pub must_be_there : (fits i u : Bool) (f : Fault) → pdu_fault false fits i u Absent f ≡ Missing
+pub must_be_there : (fits i u : Bool) (f : Option Fault) → pdu_fault false fits i u Absent f ≡ Some Missing
 unfolding pdu_fault
 must_be_there fits i u f = refl
 
 -- one that is there is judged the same
-pub there_the_same : (may i u : Bool) (f : Fault) → pdu_fault may true i u Send f ≡ f
+pub there_the_same : (may i u : Bool) (f : Option Fault) → pdu_fault may true i u Send f ≡ f
 unfolding pdu_fault
 there_the_same may i u f = refl
 
-pub invalid_the_same : (may fits i u : Bool) (f : Fault) → pdu_fault may fits i u NotValid f ≡ Invalid i
+pub invalid_the_same : (may fits i u : Bool) (f : Option Fault) → pdu_fault may fits i u NotValid f ≡ Some (Invalid i)
 unfolding pdu_fault
 invalid_the_same may fits i u f = refl
 

@@ -27,11 +27,11 @@ use Rattle.machine.specs.declared.event.Event.{Event}
 use Rattle.machine.specs.declared.event.Event.TheVariants.{User, Service}
 use Rattle.machine.specs.declared.event.Event.TheVariants.{Forward as ForwardRequested}
 use Rattle.machine.specs.declared.event.Qos.{Qos}
-use Rattle.machine.specs.declared.outcome.StepRefusal.TheVariants.{None}
 use Rattle.machine.specs.declared.outcome.Invoked.TheVariants.{DStartForwardResponse}
 use Rattle.machine.specs.declared.outcome.Told.TheVariants.{ForwardIndication}
 use Rattle.machine.specs.Exceptions.{closes}
 use Rattle.machine.specs.Forwards.{forward_request, responds, forward_arrives, forward_confirmed}
+use Rattle.std.specs.Prelude.{None, Some}
 
 -- a record with local policy "no security"
 abbrev fresh : Record
@@ -87,7 +87,7 @@ abbrev quality : Qos
 quality = record { priority = 1; rer = 1; routing = 0 }
 
 -- the receiver answers in the same event, tells its user, and stays as it was
-pub forward_answered : step Ground fresh (Service (DStartIndication 0 0 quality 1) Forward) ≡ record { refusal = None; next = fresh; invoked = DStartForwardResponse 0 0; told = ForwardIndication; apdu = ForwardResponse 0; delivers = false }
+pub forward_answered : step Ground fresh (Service (DStartIndication 0 0 quality 1) Forward) ≡ record { refusal = None; next = fresh; invoked = Some (DStartForwardResponse 0 0); told = Some ForwardIndication; apdu = ForwardResponse 0; delivers = false }
 unfolding step refusal_of permitted message_refusal acts event_fits service_fits user_data_fits qos_fits reached first_fault
     indication_fault start_fits_of pdu_fault answered instructed forward_arrives responds enter
 forward_answered = refl

@@ -13,7 +13,6 @@ use Rattle.bits.proofs.Numbers.{Bits}
 use Rattle.bits.proofs.Bytes.{bits_append, bits_take, bits_drop}
 use Rattle.fields.specs.Fields.{digits_in, width_of, extensible_index}
 use Rattle.fields.specs.Encodings.{index_bits, whole_fits}
-use Rattle.fields.specs.declared.Field.TheVariants.{Value, Refused}
 use Rattle.fields.proofs.RoundTrip.{Stands, stands_join, stands_split, extensible_index_is}
 use Rattle.fields.proofs.Writers.{length_index}
 use Rattle.elements.proofs.Standing.{both_hold}
@@ -33,20 +32,18 @@ use Rattle.apdu.specs.declared.Kind.TheVariants as kind
 use Rattle.apdu.specs.declared.Data.{Data}
 use Rattle.apdu.specs.declared.Heading.{Heading}
 use Rattle.apdu.specs.declared.Forward.{Forward}
-use Rattle.apdu.specs.declared.Forwarded.TheVariants as forwarded
-use Rattle.apdu.specs.declared.Taken.TheVariants as taken
-use Rattle.apdu.specs.declared.Lead.TheVariants as lead
 use Rattle.apdu.specs.declared.Apdu.{Apdu}
 use Rattle.apdu.specs.declared.Apdu.TheVariants as is
-use Rattle.apdu.specs.declared.Decoded.TheVariants as decoded
 use Rattle.apdu.proofs.Bounds.{never, content_most, forward_most, pdu_most, length_alternative, lead_most, width_most, reason_most}
-use Rattle.apdu.proofs.Contents.{stands_at, via}
-use Rattle.apdu.proofs.Apdus.{small, has, has_forward, mode_written, mode_read, ended_well, ended_is, reason_is, lead_read, value_place, ground_only, refused_not, via_data, via_lead, via_forward}
+use Rattle.apdu.proofs.Contents.{stands_at}
+use Rattle.front.proofs.Laws.{via}
+use Rattle.apdu.proofs.Apdus.{small, has, has_forward, mode_written, mode_read, ended_well, ended_is, reason_is, lead_read, value_place, ground_only}
 use Rattle.apdu.proofs.Theorems.{stands_front, tail_padded, pad_bits, front, ended_whole, mode_are_bits, index_are_bits}
 use Rattle.codec.specs.Codec.{user_last, content_bits, start_bits, forward_bits, pdu_bits, apdu_fits, start_at, send_at, forward_at, rest_at, apdu_at}
 use Rattle.codec.proofs.Stated.{is_there, content_fits, must_hold, forward_pdu_fits, pdu_fits, extended, ApduRead, Accepted, ForwardRun}
 use Rattle.codec.proofs.Contents.{marked, Contents}
 use Rattle.codec.proofs.Type2.{bits_behind}
+use Rattle.std.specs.Prelude.{Err, Ok}
 
 -- ---- the reasons of a user abort
 
@@ -227,21 +224,21 @@ module _ (ed : Edition) (k : Contents ed) where
     end : ends a next
 
   user_stood : (t : PduType) (l : List ℕ) (p n r : ℕ) → Bits l → Stands l 0 (index_bits (last_of t) 0) p
-      → extensible_index l p (user_last ed) ≡ Value r n → Stood t l (is.AbortUser r) n
+      → extensible_index l p (user_last ed) ≡ Ok (r, n) → Stood t l (is.AbortUser r) n
   unfolding apdu_fits pdu_fits pdu_bits pdu_in
   user_stood t l p n r b s f =
       let i = reason_is l 0 p n r (user_last ed) (index_bits (last_of t) 0) b (user_small ed) s f in
       record { placed_fits = i.fits; fits = i.fits; stands = λ e. i.stands; end = tt }
 
   provider_stood : (t : PduType) (l : List ℕ) (p n r : ℕ) → Bits l → Stands l 0 (index_bits (last_of t) 1) p
-      → extensible_index l p provider_last ≡ Value r n → Stood t l (is.AbortProvider r) n
+      → extensible_index l p provider_last ≡ Ok (r, n) → Stood t l (is.AbortProvider r) n
   unfolding apdu_fits pdu_fits pdu_bits pdu_in
   provider_stood t l p n r b s f =
       let i = reason_is l 0 p n r provider_last (index_bits (last_of t) 1) b (omega arith) s f in
       record { placed_fits = i.fits; fits = i.fits; stands = λ e. i.stands; end = tt }
 
   start_stood : (t : PduType) (l : List ℕ) (p q n m : ℕ) (d : Data) → Bits l → Stands l 0 (index_bits (last_of t) 2) p
-      → mode_at t l p ≡ Value m q → start_at ed t l q ≡ taken.Is d n → Stood t l (is.Start m d) n
+      → mode_at t l p ≡ Ok (m, q) → start_at ed t l q ≡ Ok (d, n) → Stood t l (is.Start m d) n
   unfolding apdu_fits pdu_fits pdu_bits pdu_in
   start_stood t l p q n m d b s f g =
       let sp = s.place in
@@ -260,7 +257,7 @@ module _ (ed : Edition) (k : Contents ed) where
       }
 
   send_stood : (t : PduType) (l : List ℕ) (p n : ℕ) (d : Data) → Bits l → Stands l 0 (index_bits (last_of t) 3) p
-      → send_at ed t l p ≡ taken.Is d n → Stood t l (is.Send d) n
+      → send_at ed t l p ≡ Ok (d, n) → Stood t l (is.Send d) n
   unfolding apdu_fits pdu_fits pdu_bits pdu_in
   send_stood t l p n d b s g =
       let w = k.send_read t l p n d b g in
@@ -274,7 +271,7 @@ module _ (ed : Edition) (k : Contents ed) where
       }
 
   forward_stood : (t : PduType) (l : List ℕ) (p n : ℕ) (f : Forward) → Bits l → forwards t ≡ true
-      → Stands l 0 (index_bits (last_of t) 4) p → forward_at ed l p ≡ forwarded.Is f n → Stood t l (is.Forward f) n
+      → Stands l 0 (index_bits (last_of t) 4) p → forward_at ed l p ≡ Ok (f, n) → Stood t l (is.Forward f) n
   unfolding apdu_fits pdu_fits pdu_bits pdu_in
   forward_stood t l p n f b y s g =
       let w = k.forward_read l p f n b g in
@@ -286,7 +283,7 @@ module _ (ed : Edition) (k : Contents ed) where
       }
 
   response_stood : (t : PduType) (l : List ℕ) (p n r : ℕ) → Bits l → forwards t ≡ true
-      → Stands l 0 (index_bits (last_of t) 5) p → extensible_index l p response_last ≡ Value r n
+      → Stands l 0 (index_bits (last_of t) 5) p → extensible_index l p response_last ≡ Ok (r, n)
       → Stood t l (is.ForwardResponse r) n
   unfolding apdu_fits pdu_fits pdu_bits pdu_in
   response_stood t l p n r b y s g =
@@ -298,57 +295,55 @@ module _ (ed : Edition) (k : Contents ed) where
     left : ℕ
     end : ℕ
     stood : Stood t l a next
-    tail : tail_at l next ≡ Value left end
+    tail : tail_at l next ≡ Ok (left, end)
 
-  ended_read : (t : PduType) (l : List ℕ) (n : ℕ) (a b : Apdu) → Stood t l b n → ended_at l n b ≡ decoded.Is a → ApduIs t l a
+  ended_read : (t : PduType) (l : List ℕ) (n : ℕ) (a b : Apdu) → Stood t l b n → ended_at l n b ≡ Ok a → ApduIs t l a
   ended_read t l n a b u e =
       let i = ended_is l n a b e in
       subst (λ (x : Apdu). ApduIs t l x) i.same (record { next = n; left = i.left; end = i.end; stood = u; tail = i.tail })
 
   rest_read : (t : PduType) (l : List ℕ) (p : ℕ) (c : Kind) (m q : ℕ) (a : Apdu) → Bits l → index_of c ≤ last_of t
-      → Stands l 0 (index_bits (last_of t) (index_of c)) p → kind_mode t l c p ≡ Value m q
-      → rest_at ed t l c m q ≡ decoded.Is a → ApduIs t l a
+      → Stands l 0 (index_bits (last_of t) (index_of c)) p → kind_mode t l c p ≡ Ok (m, q)
+      → rest_at ed t l c m q ≡ Ok a → ApduIs t l a
   unfolding kind_mode rest_at
   rest_read t l p kind.AbortUser m q a b h s f e =
-      via (ApduIs t l a) decoded.Refused (decoded.Is a) (refused_not (ApduIs t l a) a) (extensible_index l q (user_last ed)) _
-      (λ (r n : ℕ) (g : extensible_index l q (user_last ed) ≡ Value r n)
-      (j : ended_at l n (is.AbortUser r) ≡ decoded.Is a). ended_read t l n a (is.AbortUser r)
+      via (ApduIs t l a) (extensible_index l q (user_last ed)) _ a
+      (λ (r n : ℕ) (g : extensible_index l q (user_last ed) ≡ Ok (r, n))
+      (j : ended_at l n (is.AbortUser r) ≡ Ok a). ended_read t l n a (is.AbortUser r)
       (user_stood t l q n r b (stands_at l 0 p q _ (value_place p m q f) s) g) j) e
   rest_read t l p kind.AbortProvider m q a b h s f e =
-      via (ApduIs t l a) decoded.Refused (decoded.Is a) (refused_not (ApduIs t l a) a) (extensible_index l q provider_last) _
-      (λ (r n : ℕ) (g : extensible_index l q provider_last ≡ Value r n)
-      (j : ended_at l n (is.AbortProvider r) ≡ decoded.Is a). ended_read t l n a (is.AbortProvider r)
+      via (ApduIs t l a) (extensible_index l q provider_last) _ a
+      (λ (r n : ℕ) (g : extensible_index l q provider_last ≡ Ok (r, n))
+      (j : ended_at l n (is.AbortProvider r) ≡ Ok a). ended_read t l n a (is.AbortProvider r)
       (provider_stood t l q n r b (stands_at l 0 p q _ (value_place p m q f) s) g) j) e
   rest_read t l p kind.Start m q a b h s f e =
-      via_data (ApduIs t l a) a (start_at ed t l q) _ (λ (d : Data) (n : ℕ) (g : start_at ed t l q ≡ taken.Is d n)
-      (j : ended_at l n (is.Start m d) ≡ decoded.Is a). ended_read t l n a (is.Start m d)
+      via (ApduIs t l a) (start_at ed t l q) _ a (λ (d : Data) (n : ℕ) (g : start_at ed t l q ≡ Ok (d, n))
+      (j : ended_at l n (is.Start m d) ≡ Ok a). ended_read t l n a (is.Start m d)
       (start_stood t l p q n m d b s f g) j) e
   rest_read t l p kind.Send m q a b h s f e =
-      via_data (ApduIs t l a) a (send_at ed t l q) _ (λ (d : Data) (n : ℕ) (g : send_at ed t l q ≡ taken.Is d n)
-      (j : ended_at l n (is.Send d) ≡ decoded.Is a). ended_read t l n a (is.Send d)
+      via (ApduIs t l a) (send_at ed t l q) _ a (λ (d : Data) (n : ℕ) (g : send_at ed t l q ≡ Ok (d, n))
+      (j : ended_at l n (is.Send d) ≡ Ok a). ended_read t l n a (is.Send d)
       (send_stood t l q n d b (stands_at l 0 p q _ (value_place p m q f) s) g) j) e
   rest_read t l p kind.Forward m q a b h s f e =
-      via_forward (ApduIs t l a) a (forward_at ed l q) _ (λ (x : Forward) (n : ℕ) (g : forward_at ed l q ≡ forwarded.Is x n) (j : ended_at l n (is.Forward x) ≡ decoded.Is a).
+      via (ApduIs t l a) (forward_at ed l q) _ a (λ (x : Forward) (n : ℕ) (g : forward_at ed l q ≡ Ok (x, n)) (j : ended_at l n (is.Forward x) ≡ Ok a).
       ended_read t l n a (is.Forward x)
       (forward_stood t l q n x b (ground_only t 4 h (omega arith)) (stands_at l 0 p q _ (value_place p m q f) s) g)
       j) e
   rest_read t l p kind.ForwardResponse m q a b h s f e =
-      via (ApduIs t l a) decoded.Refused (decoded.Is a) (refused_not (ApduIs t l a) a) (extensible_index l q response_last) _
-      (λ (r n : ℕ) (g : extensible_index l q response_last ≡ Value r n) (j : ended_at l n (is.ForwardResponse r) ≡ decoded.Is a).
+      via (ApduIs t l a) (extensible_index l q response_last) _ a
+      (λ (r n : ℕ) (g : extensible_index l q response_last ≡ Ok (r, n)) (j : ended_at l n (is.ForwardResponse r) ≡ Ok a).
       ended_read t l n a (is.ForwardResponse r)
       (response_stood t l q n r b (ground_only t 5 h (omega arith)) (stands_at l 0 p q _ (value_place p m q f) s) g)
       j) e
 
-  apdu_read : (t : PduType) (l : List ℕ) (a : Apdu) → Bits l → apdu_at ed t l ≡ decoded.Is a → ApduIs t l a
+  apdu_read : (t : PduType) (l : List ℕ) (a : Apdu) → Bits l → apdu_at ed t l ≡ Ok a → ApduIs t l a
   unfolding apdu_at
-  apdu_read t l a b e = via_lead (ApduIs t l a) a (leading_at t l 0) (rest_at ed t l) found e
-    where
-      found : (c : Kind) (m n : ℕ) → leading_at t l 0 ≡ lead.Is c m n → rest_at ed t l c m n ≡ decoded.Is a → ApduIs t l a
-      found c m n f j =
-          let i = lead_read t l 0 c m n b f in
-          rest_read t l i.place c m n a b i.most i.stands i.mode j
+  apdu_read t l a b e =
+      via (ApduIs t l a) (leading_at t l 0) _ a (λ (x : Kind × ℕ) (n : ℕ) (f : leading_at t l 0 ≡ Ok (x, n)) (j : rest_at ed t l x.0 x.1 n ≡ Ok a).
+      let i = lead_read t l 0 x.0 x.1 n b f in
+      rest_read t l i.place x.0 x.1 n a b i.most i.stands i.mode j) e
 
-  pub accepted : (t : PduType) (l : List ℕ) (a : Apdu) → Bits l → apdu_at ed t l ≡ decoded.Is a → Accepted ed t l a
+  pub accepted : (t : PduType) (l : List ℕ) (a : Apdu) → Bits l → apdu_at ed t l ≡ Ok a → Accepted ed t l a
   accepted t l a b e =
       let i = apdu_read t l a b e in
       record { placed_fits = i.stood.placed_fits; fits = i.stood.fits; bits = λ (x : extended ed t l a ≡ false). ended_whole l (pdu_bits ed t (pdu_in l l l a)) i.next i.left i.end b (i.stood.stands x) i.tail }
@@ -365,7 +360,7 @@ module _ (ed : Edition) (k : Contents ed) where
   four AircraftPdus h = never (cc)
   four GroundPdus h = length_index 5 4
 
-  pub forward_run : (t : PduType) (l : List ℕ) (f : Forward) → Bits l → apdu_at ed t l ≡ decoded.Is (is.Forward f) → ForwardRun ed l f
+  pub forward_run : (t : PduType) (l : List ℕ) (f : Forward) → Bits l → apdu_at ed t l ≡ Ok (is.Forward f) → ForwardRun ed l f
   unfolding apdu_fits pdu_bits pdu_in
   forward_run t l f b e =
       let i = apdu_read t l (is.Forward f) b e in

@@ -22,20 +22,19 @@ use Rattle.apdu.specs.Encoding as protected
 use Rattle.apdu.specs.Reading.{data_at}
 use Rattle.apdu.specs.InPlace.{bits_in, perhaps_bits}
 use Rattle.pdus.specs.declared.PduType.{PduType}
-use Rattle.apdu.specs.declared.Part.{Part}
-use Rattle.apdu.specs.declared.Part.TheVariants as part
 use Rattle.apdu.specs.declared.Data.{Data}
-use Rattle.apdu.specs.declared.Taken.{Taken}
-use Rattle.apdu.specs.declared.Taken.TheVariants as taken
 use Rattle.apdu.proofs.Bounds.{never, data_value_fits}
 use Rattle.apdu.proofs.Contents.{DataRead, data_written, data_mark, data_plain, data_read}
 use Rattle.plain.specs.Plain as plain
 use Rattle.plain.specs.Plain.{sent_by, takes_all, is_empty, message_fits}
 use Rattle.plain.proofs.Instance.{message_some}
-use Rattle.plain.proofs.Shapes.{ends_at_is}
+use Rattle.front.proofs.Runs.{ends_at_is}
 use Rattle.plain.proofs.Contents.{content_is}
 use Rattle.codec.specs.Codec.{content_bits, start_bits}
 use Rattle.codec.proofs.Stated.{is_there, content_fits, bits_only, wholly, is_body_is, is_given, carries, start_of, BodyIs}
+use Rattle.std.specs.Prelude.{Err, None, Ok, Option, Some}
+use Rattle.fields.specs.Fields.{Reading}
+use Rattle.pdus.specs.declared.Span.{Span}
 
 -- ---- lists of bits
 
@@ -66,19 +65,19 @@ protected_is t b e = go (data_at b 0) refl (both_right (clear b) (wholly (data_a
     rest : clear b && wholly (data_at b 0) (length b) ≡ true
     rest = both_right (bits_only b) (clear b && wholly (data_at b 0) (length b)) e
 
-    go : (x : Taken) → data_at b 0 ≡ x → wholly x (length b) ≡ true → BodyIs Protected t b
-    go (taken.Is d next) q w =
+    go : (x : Reading Data) → data_at b 0 ≡ x → wholly x (length b) ≡ true → BodyIs Protected t b
+    go (Ok (d, next)) q w =
         let h = bits_only_is b (both_left (bits_only b) (clear b && wholly (data_at b 0) (length b)) e) in
         let i = data_read b 0 next d h q in
         let z : i.mark ≡ 0 = sym (data_mark b 0 next d i) ∙ eqb-true (get_or b 0 0) 0
         (both_left (clear b) (wholly (data_at b 0) (length b)) rest) in
         record { content = content_in b b b d; fits = data_value_fits b b b d i.placed_fits; bits = all_of b (protected.content_bits (content_in b b b d)) next (data_plain b 0 next d i z) (eqb-true next (length b) w); are_bits = h }
-    go (taken.Refused r) q w = never (cc)
+    go (Err r) q w = never (cc)
 
-part_there : (l : List ℕ) (unit : ℕ) (p : Part) → is_there (part_in l unit p) ≡ is_given p
+part_there : (l : List ℕ) (unit : ℕ) (p : Option Span) → is_there (part_in l unit p) ≡ is_given p
 unfolding part_in
-part_there l unit part.Absent = refl
-part_there l unit (part.Given x) = refl
+part_there l unit None = refl
+part_there l unit (Some x) = refl
 
 pub content_there : (li lm lc : List ℕ) (d : Data) → is_there (content_in li lm lc d).message ≡ is_given d.message
 unfolding content_in

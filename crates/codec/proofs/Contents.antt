@@ -16,12 +16,11 @@ use Rattle.pdus.specs.declared.PduType.{PduType}
 use Rattle.apdu.specs.declared.Data.{Data}
 use Rattle.apdu.specs.declared.Heading.{Heading}
 use Rattle.apdu.specs.declared.Forward.{Forward}
-use Rattle.apdu.specs.declared.Forwarded.TheVariants as forwarded
-use Rattle.apdu.specs.declared.Taken.TheVariants as taken
 use Rattle.apdu.proofs.Bounds.{content_most, forward_most}
 use Rattle.plain.proofs.Contents.{DataRead, ForwardRead}
 use Rattle.codec.specs.Codec.{content_bits, start_bits, forward_bits, start_at, send_at, forward_at}
 use Rattle.codec.proofs.Stated.{is_there, content_fits, must_hold, forward_pdu_fits}
+use Rattle.std.specs.Prelude.{Ok}
 
 -- the extension bit, where there is one, is 1
 abbrev pub marked : Edition → List ℕ → ℕ → Bool
@@ -50,13 +49,13 @@ pub record Contents (ed : Edition) : Type 0 where
   pub forward_written : (l : List ℕ) (at next : ℕ) (h : Heading) (m : List ℕ) → Bits l → forward_pdu_fits ed h m ≡ true
       → Stands l at (forward_bits ed h m) next → ForwardRead (forward_at ed l at) l next h m
   -- what is read stands there
-  pub start_read : (t : PduType) (l : List ℕ) (at next : ℕ) (x : Data) → Bits l → start_at ed t l at ≡ taken.Is x next
+  pub start_read : (t : PduType) (l : List ℕ) (at next : ℕ) (x : Data) → Bits l → start_at ed t l at ≡ Ok (x, next)
       → DataIs ed t (start_bits ed) l at next x
-  pub send_read : (t : PduType) (l : List ℕ) (at next : ℕ) (x : Data) → Bits l → send_at ed t l at ≡ taken.Is x next
+  pub send_read : (t : PduType) (l : List ℕ) (at next : ℕ) (x : Data) → Bits l → send_at ed t l at ≡ Ok (x, next)
       → DataIs ed t (content_bits ed) l at next x
-  pub send_holds : (t : PduType) (l : List ℕ) (at next : ℕ) (x : Data) → send_at ed t l at ≡ taken.Is x next
+  pub send_holds : (t : PduType) (l : List ℕ) (at next : ℕ) (x : Data) → send_at ed t l at ≡ Ok (x, next)
       → must_hold ed (is_there (content_in l l l x).message) ≡ true
-  pub forward_read : (l : List ℕ) (at : ℕ) (f : Forward) (next : ℕ) → Bits l → forward_at ed l at ≡ forwarded.Is f next
+  pub forward_read : (l : List ℕ) (at : ℕ) (f : Forward) (next : ℕ) → Bits l → forward_at ed l at ≡ Ok (f, next)
       → ForwardIs ed l at f next
   -- encodings are bits
   pub content_are_bits : (li lm lc : List ℕ) (d : Data) → Bits li → Bits lm → Bits lc → Bits (content_bits ed (content_in li lm lc d))

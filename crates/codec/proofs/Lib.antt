@@ -1,4 +1,3 @@
-pub mod Given
 pub mod Stated
 pub mod Same
 pub mod Contents

@@ -6,16 +6,16 @@ use Prim.Native.Nat.{ℕ}
 use Rattle.editions.specs.declared.Edition.TheVariants.{Protected}
 use Rattle.apdu.specs.Pdus.{Pdu, abort_user, abort_provider, start, send, forward, forward_response}
 use Rattle.apdu.specs.Encoding.{pdu_bits as theirBits}
-use Rattle.apdu.specs.Reading.{on_lead, leading_at, rest_within, apdu_within, rest_at as theirRest, apdu_at as theirApdu}
+use Rattle.apdu.specs.Reading.{leading_at, rest_within, apdu_within, rest_at as theirRest, apdu_at as theirApdu}
 use Rattle.apdu.specs.Writing.{apdu_fits as theirFits}
 use Rattle.pdus.specs.declared.PduType.{PduType}
 use Rattle.apdu.specs.declared.Kind.{Kind}
 use Rattle.apdu.specs.declared.Kind.TheVariants as kind
-use Rattle.apdu.specs.declared.Lead.{Lead}
-use Rattle.apdu.specs.declared.Lead.TheVariants as lead
 use Rattle.apdu.specs.declared.Apdu.{Apdu}
 use Rattle.apdu.specs.declared.Apdu.TheVariants as is
 use Rattle.codec.specs.Codec.{pdu_bits, apdu_fits, rest_at, apdu_at}
+use Rattle.std.specs.Prelude.{Err, Ok}
+use Rattle.fields.specs.Fields.{Reading, then}
 
 pub bits_same : (t : PduType) (v : Pdu) → pdu_bits Protected t v ≡ theirBits t v
 unfolding pdu_bits theirBits
@@ -48,6 +48,6 @@ pub apdu_same : (t : PduType) (l : List ℕ) → apdu_at Protected t l ≡ their
 unfolding apdu_at apdu_within
 apdu_same t l = go (leading_at t l 0)
   where
-    go : (x : Lead) → on_lead x (rest_at Protected t l) ≡ on_lead x (theirRest l)
-    go (lead.Is k m n) = rest_same t l k m n
-    go (lead.Refused r) = refl
+    go : (x : Reading (Kind × ℕ)) → then x (λ (k : Kind × ℕ) (n : ℕ). rest_at Protected t l k.0 k.1 n) ≡ then x (λ (k : Kind × ℕ) (n : ℕ). theirRest l k.0 k.1 n)
+    go (Ok ((k, m), n)) = rest_same t l k m n
+    go (Err r) = refl

@@ -21,20 +21,18 @@ use Rattle.apdu.specs.Stripped as stripped
 use Rattle.apdu.specs.InPlace.{perhaps_bits}
 use Rattle.apdu.specs.Writing.{data_fits, forward_fits}
 use Rattle.pdus.specs.declared.PduType.{PduType}
-use Rattle.apdu.specs.declared.Part.{Part}
-use Rattle.apdu.specs.declared.Part.TheVariants as part
 use Rattle.apdu.specs.declared.Data.{Data}
 use Rattle.apdu.specs.declared.Heading.{Heading}
 use Rattle.apdu.specs.declared.Forward.{Forward}
-use Rattle.apdu.specs.declared.Taken.{Taken}
-use Rattle.apdu.specs.declared.Taken.TheVariants as taken
 use Rattle.apdu.specs.declared.Apdu.{Apdu}
 use Rattle.apdu.specs.declared.Apdu.TheVariants as is
-use Rattle.apdu.specs.declared.Decoded.TheVariants as decoded
 use Rattle.apdu.proofs.Bounds.{content_most, forward_most, pdu_most}
 use Rattle.plain.specs.Plain as plain
 use Rattle.plain.specs.Plain.{sent_by, takes_all, is_empty, elements_fit}
 use Rattle.codec.specs.Codec.{user_last, content_bits, start_bits, forward_bits, pdu_bits, given_fits, forward_given_fits, apdu_fits, apdu_at}
+use Rattle.std.specs.Prelude.{Err, None, Ok, Option, Some}
+use Rattle.fields.specs.Fields.{Reading}
+use Rattle.pdus.specs.declared.Span.{Span}
 
 -- ---- values that the edition carries
 
@@ -75,22 +73,22 @@ bits_only [] = true
 bits_only (x ∷ l) = ltb x 2 && bits_only l
 
 -- from the first bit to the last, without additions
-abbrev pub wholly : Taken → ℕ → Bool
-wholly (taken.Is d next) n = eqb next n
-wholly (taken.Refused r) n = false
+abbrev pub wholly : Reading Data → ℕ → Bool
+wholly (Ok (d, next)) n = eqb next n
+wholly (Err r) n = false
 
 -- in type 2 a message, or nothing
 unfoldable pub is_body_is : Edition → PduType → List ℕ → Bool
 is_body_is Protected t b = bits_only b && (eqb (get_or b 0 0) 0 && wholly (data_at b 0) (length b))
 is_body_is Plain t b = bits_only b && (is_empty b || takes_all (message_span (sent_by t)) b)
 
-abbrev pub is_given : Part → Bool
-is_given part.Absent = false
-is_given (part.Given x) = true
+abbrev pub is_given : Option Span → Bool
+is_given None = false
+is_given (Some x) = true
 
-abbrev pub message_in : Taken → Bool
-message_in (taken.Is d next) = is_given d.message
-message_in (taken.Refused r) = false
+abbrev pub message_in : Reading Data → Bool
+message_in (Ok (d, next)) = is_given d.message
+message_in (Err r) = false
 
 -- is there a message in it
 unfoldable pub carries : Edition → List ℕ → Bool
@@ -113,7 +111,7 @@ pub record BodyIs (ed : Edition) (t : PduType) (b : List ℕ) : Type 0 where
 -- bits that are read as a value
 pub record ApduRead (ed : Edition) (t : PduType) (l : List ℕ) (v : Pdu) : Type 0 where
   pub value : Apdu
-  pub read : apdu_at ed t l ≡ decoded.Is value
+  pub read : apdu_at ed t l ≡ Ok value
   pub same : pdu_in l l l value ≡ v
 
 -- bits that are read as an APDU: its parts stand in them, its value is one that the edition carries, and without additions they are its encoding
@@ -158,8 +156,8 @@ pub record Laws (ed : Edition) : Type 0 where
   pub written_read : (t : PduType) (v : Pdu) (s : List ℕ) → Bits (pdu_bits ed t v) → pdu_fits ed t v ≡ true → buffer_least ≤ length s
       → ApduRead ed t (lent (take (bytes_for (length (pdu_bits ed t v))) (put_bits s 0 (padded (pdu_bits ed t v))))) v
   -- what is read
-  pub accepted : (t : PduType) (l : List ℕ) (a : Apdu) → Bits l → apdu_at ed t l ≡ decoded.Is a → Accepted ed t l a
-  pub forward_run : (t : PduType) (l : List ℕ) (f : Forward) → Bits l → apdu_at ed t l ≡ decoded.Is (is.Forward f) → ForwardRun ed l f
+  pub accepted : (t : PduType) (l : List ℕ) (a : Apdu) → Bits l → apdu_at ed t l ≡ Ok a → Accepted ed t l a
+  pub forward_run : (t : PduType) (l : List ℕ) (f : Forward) → Bits l → apdu_at ed t l ≡ Ok (is.Forward f) → ForwardRun ed l f
   -- bodies
   pub body_is : (t : PduType) (b : List ℕ) → is_body_is ed t b ≡ true → BodyIs ed t b
   pub is_body : (t : PduType) (c : Content) → content_fits ed t c ≡ true → Bits (content_bits ed c) → is_body_is ed t (content_bits ed c) ≡ true

@@ -23,23 +23,21 @@ use Rattle.apdu.specs.Encoding.{presence}
 use Rattle.apdu.specs.InPlace.{bits_in, perhaps_bits, headed_bits}
 use Rattle.apdu.specs.Writing.{items_fit, part_fits, data_fits, forward_fits}
 use Rattle.pdus.specs.declared.PduType.{PduType}
-use Rattle.apdu.specs.declared.Part.{Part}
-use Rattle.apdu.specs.declared.Part.TheVariants as part
 use Rattle.apdu.specs.declared.Data.{Data}
 use Rattle.apdu.specs.declared.Heading.{Heading}
 use Rattle.apdu.specs.declared.Forward.{Forward}
-use Rattle.apdu.specs.declared.Forwarded.TheVariants as forwarded
-use Rattle.apdu.specs.declared.Taken.TheVariants as taken
 use Rattle.apdu.proofs.Bounds.{never, counted, items_fits, length_items, data_fits_is, forward_most}
 use Rattle.apdu.proofs.Heads.{heading_most, heading_most_is}
 use Rattle.apdu.proofs.Forwards.{heading_are_bits}
 use Rattle.apdu.proofs.Theorems.{no_bits}
 use Rattle.plain.specs.Plain.{sent_by, direction_of, takes_all, is_absent, message_fits, content_fits, elements_fit, send_at, start_at, forward_at}
 use Rattle.plain.proofs.Instance.{message_most_is, elements_few}
-use Rattle.plain.proofs.Shapes.{ends_at_is}
+use Rattle.front.proofs.Runs.{ends_at_is}
 use Rattle.plain.proofs.Contents.{DataRead, ForwardRead, content_is, send_written, start_written, forward_written, send_read, send_there, start_read, forward_read}
 use Rattle.codec.proofs.Stated.{is_there}
 use Rattle.codec.proofs.Contents.{DataIs, ForwardIs, Contents}
+use Rattle.std.specs.Prelude.{None, Ok, Option, Some}
+use Rattle.pdus.specs.declared.Span.{Span}
 
 -- ---- a message that must be there
 
@@ -68,10 +66,10 @@ sent t l at next c b h k s =
 pub bits_behind : (xs ys : List ℕ) → Bits (xs ++ ys) → Bits ys
 bits_behind xs ys b = subst Bits (drop-append_seam xs ys) (bits_drop (length xs) (xs ++ ys) b)
 
-part_bits : (l : List ℕ) (p : Part) → Bits l → Bits (bits_in (part_in l bit p))
+part_bits : (l : List ℕ) (p : Option Span) → Bits l → Bits (bits_in (part_in l bit p))
 unfolding bits_in part_in
-part_bits l part.Absent b = no_bits
-part_bits l (part.Given x) b = bits_take (bit * x.count) (drop x.at l) (bits_drop x.at l b)
+part_bits l None b = no_bits
+part_bits l (Some x) b = bits_take (bit * x.count) (drop x.at l) (bits_drop x.at l b)
 
 content_bits : (li lm lc : List ℕ) (d : Data) → Bits li → Bits lm → Bits lc → Bits (bits_in (content_in li lm lc d).message)
 unfolding content_in
@@ -88,10 +86,10 @@ headed_bits_is h m b = bits_append (heading_bits h) m (heading_are_bits h) b
 
 -- ---- sizes
 
-part_most : (l : List ℕ) (p : Part) → part_fits l bit 0 message_most p ≡ true → length (bits_in (part_in l bit p)) ≤ message_most
+part_most : (l : List ℕ) (p : Option Span) → part_fits l bit 0 message_most p ≡ true → length (bits_in (part_in l bit p)) ≤ message_most
 unfolding bits_in part_in part_fits
-part_most l part.Absent h = omega arith
-part_most l (part.Given x) h =
+part_most l None h = omega arith
+part_most l (Some x) h =
     let i = items_fits l bit 0 message_most x h in
     let n = length_items l bit x i.held in
     let k = (counted 0 message_most x.count i.fits).high in
@@ -155,16 +153,16 @@ plain_contents =
           (e : heading_fits h && elements_fit h m ≡ true) (s : Stands l at (headed_bits h m) next).
           forward_written l at next h m b (both_left (heading_fits h) (elements_fit h m) e)
           (both_right (heading_fits h) (elements_fit h m) e) s;
-      start_read = λ (t : PduType) (l : List ℕ) (at next : ℕ) (x : Data) (b : Bits l) (e : start_at (sent_by t) l at ≡ taken.Is x next).
+      start_read = λ (t : PduType) (l : List ℕ) (at next : ℕ) (x : Data) (b : Bits l) (e : start_at (sent_by t) l at ≡ Ok (x, next)).
           let i = start_read (sent_by t) l at next x b e in
           record { placed_fits = i.placed_fits; fits = i.fits; stands = λ (q : false ≡ false). i.stands };
-      send_read = λ (t : PduType) (l : List ℕ) (at next : ℕ) (x : Data) (b : Bits l) (e : send_at (sent_by t) l at ≡ taken.Is x next).
+      send_read = λ (t : PduType) (l : List ℕ) (at next : ℕ) (x : Data) (b : Bits l) (e : send_at (sent_by t) l at ≡ Ok (x, next)).
           let i = send_read (sent_by t) l at next x b e in
           record { placed_fits = i.placed_fits; fits = i.fits; stands = λ (q : false ≡ false). i.stands };
       send_holds = λ (t : PduType) (l : List ℕ) (at next : ℕ) (x : Data)
-          (e : send_at (sent_by t) l at ≡ taken.Is x next). held (content_in l l l x).message
+          (e : send_at (sent_by t) l at ≡ Ok (x, next)). held (content_in l l l x).message
           (send_there (sent_by t) l at next x e);
-      forward_read = λ (l : List ℕ) (at : ℕ) (f : Forward) (next : ℕ) (b : Bits l) (e : forward_at l at ≡ forwarded.Is f next).
+      forward_read = λ (l : List ℕ) (at : ℕ) (f : Forward) (next : ℕ) (b : Bits l) (e : forward_at l at ≡ Ok (f, next)).
           let i = forward_read l at f next b e in
           record { placed_fits = i.placed_fits; fits = both_hold _ _ i.heading i.fits; stands = i.stands; end = i.end };
       content_are_bits = content_bits;

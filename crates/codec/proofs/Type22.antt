@@ -10,32 +10,30 @@ use lib.Dec.{eqb}
 use lib.ListN.{length, get_or}
 use Rattle.bits.proofs.Numbers.{Bits}
 use Rattle.bits.proofs.Bytes.{bits_append}
-use Rattle.fields.specs.Fields.{string_at, onto}
+use Rattle.fields.specs.Fields.{string_at, then}
 use Rattle.fields.specs.Encodings.{length_bits}
-use Rattle.fields.specs.declared.Field.{Field}
-use Rattle.fields.specs.declared.Field.TheVariants.{Value, Refused}
 use Rattle.fields.proofs.RoundTrip.{Stands, length_determinant}
 use Rattle.editions.specs.declared.Edition.TheVariants.{Protected}
 use Rattle.apdu.specs.Sizes.{message_most, bit}
 use Rattle.apdu.specs.Pdus.{Content, items_in, content_in}
 use Rattle.apdu.specs.Encoding.{string_bits, content_bits, content_fits, forward_bits, forward_pdu_fits}
-use Rattle.apdu.specs.Reading.{on_heading, heading_at, span_to, data_at, forward_within, forward_at}
+use Rattle.apdu.specs.Reading.{heading_at, span_to, data_at, forward_within, forward_at}
 use Rattle.apdu.specs.Writing.{data_fits, forward_fits}
 use Rattle.pdus.specs.declared.PduType.{PduType}
 use Rattle.apdu.specs.declared.Data.{Data}
 use Rattle.apdu.specs.declared.Heading.{Heading}
-use Rattle.apdu.specs.declared.Headed.{Headed}
-use Rattle.apdu.specs.declared.Headed.TheVariants as headed
 use Rattle.apdu.specs.declared.Forward.{Forward}
-use Rattle.apdu.specs.declared.Forwarded.TheVariants as forwarded
-use Rattle.apdu.specs.declared.Taken.TheVariants as taken
 use Rattle.apdu.proofs.Answers.{string_room}
-use Rattle.apdu.proofs.Bounds.{never, data_value_fits, forward_value_fits, content_most_is, forward_most_is}
+use Rattle.front.proofs.Laws.{via}
+use Rattle.words.proofs.Laws.{ok_value, ok_place}
+use Rattle.apdu.proofs.Bounds.{data_value_fits, forward_value_fits, content_most_is, forward_most_is}
 use Rattle.apdu.proofs.Contents.{data_written, data_mark, data_plain, data_read}
 use Rattle.apdu.proofs.Forwards.{forward_are_bits, forward_written, forward_read}
 use Rattle.apdu.proofs.Theorems.{content_are_bits}
 use Rattle.plain.proofs.Contents.{DataRead, ForwardRead}
 use Rattle.codec.proofs.Contents.{DataIs, ForwardIs, Contents}
+use Rattle.std.specs.Prelude.{Err, Ok}
+use Rattle.fields.specs.Fields.{Reading}
 
 written : (t : PduType) (l : List ℕ) (at next : ℕ) (c : Content) → content_fits c ≡ true
     → Stands l at (content_bits c) next → DataRead (data_at l at) l next c
@@ -43,7 +41,7 @@ written t l at next c h s =
     let d = data_written l at next c h s in
     record { parts = d.parts; read = d.read; same = d.content }
 
-read : (t : PduType) (l : List ℕ) (at next : ℕ) (x : Data) → Bits l → data_at l at ≡ taken.Is x next
+read : (t : PduType) (l : List ℕ) (at next : ℕ) (x : Data) → Bits l → data_at l at ≡ Ok (x, next)
     → DataIs Protected t content_bits l at next x
 read t l at next x b e =
     let i = data_read l at next x b e in
@@ -57,23 +55,16 @@ read t l at next x b e =
         omega arith
 
 -- where a forward message that was read ends
-forward_end : (l : List ℕ) (at : ℕ) (f : Forward) (next : ℕ) → forward_at l at ≡ forwarded.Is f next
+forward_end : (l : List ℕ) (at : ℕ) (f : Forward) (next : ℕ) → forward_at l at ≡ Ok (f, next)
     → f.message.at + f.message.count ≡ next
 unfolding forward_within
-forward_end l at f next e = go (heading_at l at) e
-  where
-    end : (h : Heading) (p : ℕ) (s : Field) → string_at l p bit 0 message_most ≡ s → onto forwarded.Refused s (λ (n m : ℕ). forwarded.Is (record { heading = h; message = span_to bit n m }) m) ≡ forwarded.Is f next → f.message.at + f.message.count ≡ next
-    end h p (Value n m) q k =
-        let z : m ≡ next = cc in
-        let y : record { heading = h; message = span_to bit n m } ≡ f = cc in
-        let r = string_room l p bit 0 message_most n m q in
-        let u : m - bit * n + n ≡ m = omega arith in
-        subst (λ (x : Forward). x.message.at + x.message.count ≡ next) y (u ∙ z)
-    end h p (Refused r) q k = never (cc)
-
-    go : (t : Headed) → on_heading t (λ (h : Heading) (p : ℕ). onto forwarded.Refused (string_at l p bit 0 message_most) (λ (n m : ℕ). forwarded.Is (record { heading = h; message = span_to bit n m }) m)) ≡ forwarded.Is f next → f.message.at + f.message.count ≡ next
-    go (headed.Is h p) k = end h p (string_at l p bit 0 message_most) refl k
-    go (headed.Refused r) k = never (cc)
+forward_end l at f next e =
+    via (f.message.at + f.message.count ≡ next) (heading_at l at) _ (f, next) (λ (h : Heading) (p : ℕ) (a : heading_at l at ≡ Ok (h, p)) (k : then (string_at l p bit 0 message_most) (λ (n m : ℕ). Ok (record { heading = h; message = span_to bit n m }, m)) ≡ Ok (f, next)).
+    via (f.message.at + f.message.count ≡ next) (string_at l p bit 0 message_most) _ (f, next) (λ (n m : ℕ) (q : string_at l p bit 0 message_most ≡ Ok (n, m)) (j : ◌≡◌ {A = Reading Forward} (Ok (record { heading = h; message = span_to bit n m }, m)) (Ok (f, next))).
+    let y : record { heading = h; message = span_to bit n m } ≡ f = ok_value j in
+    let r = string_room l p bit 0 message_most n m q in
+    let u : m - bit * n + n ≡ m = omega arith in
+    subst (λ (x : Forward). x.message.at + x.message.count ≡ next) y (u ∙ ok_place j)) k) e
 
 string_bits_is : (m : List ℕ) → Bits m → Bits (string_bits bit m)
 unfolding string_bits
@@ -92,8 +83,8 @@ protected_contents =
           record { value = f.value; read = f.read; heading = f.heading; message = f.message };
       start_read = read;
       send_read = read;
-      send_holds = λ (t : PduType) (l : List ℕ) (at next : ℕ) (x : Data) (e : data_at l at ≡ taken.Is x next). refl;
-      forward_read = λ (l : List ℕ) (at : ℕ) (f : Forward) (next : ℕ) (b : Bits l) (e : forward_at l at ≡ forwarded.Is f next).
+      send_holds = λ (t : PduType) (l : List ℕ) (at next : ℕ) (x : Data) (e : data_at l at ≡ Ok (x, next)). refl;
+      forward_read = λ (l : List ℕ) (at : ℕ) (f : Forward) (next : ℕ) (b : Bits l) (e : forward_at l at ≡ Ok (f, next)).
           let i = forward_read l at f next b e in
           record { placed_fits = i.placed_fits; fits = forward_value_fits l f i.placed_fits; stands = i.stands; end = forward_end l at f next e };
       content_are_bits = content_are_bits;

@@ -1,8 +1,8 @@
 -- The APDUs of a record's edition: type 22 (crate apdu) or type 2 (crate plain). What differs are the contents and the last reason of a user abort; the
 -- alternatives, the mode, the other reasons and the padding are the same.
-use Rattle.std.specs.Prelude.{ℕ, ◌-◌, List, ◌++◌, Bool, true, false, ◌&&◌}
+use Rattle.std.specs.Prelude.{ℕ, ◌-◌, List, ◌++◌, Bool, true, false, ◌&&◌, Result}
 use Rattle.fields.specs.Encodings.{index_bits, whole_fits}
-use Rattle.fields.specs.Fields.{extensible_index, onto}
+use Rattle.fields.specs.Fields.{Reading, extensible_index, then}
 use Rattle.editions.specs.Editions.{user_reasons}
 use Rattle.editions.specs.declared.Edition.{Edition}
 use Rattle.editions.specs.declared.Edition.TheVariants.{Plain, Protected}
@@ -12,7 +12,7 @@ use Rattle.apdu.specs.Pdus.{Content, Pdu, abort_user, abort_provider, start, sen
 use Rattle.apdu.specs.Encoding as protected
 use Rattle.apdu.specs.Encoding.{mode_bits, mode_fits, alternative}
 use Rattle.apdu.specs.Reading as reading
-use Rattle.apdu.specs.Reading.{on_data, on_lead, on_forward, leading_at, ended_at}
+use Rattle.apdu.specs.Reading.{leading_at, ended_at}
 use Rattle.apdu.specs.InPlace.{bits_in, perhaps_bits, forward_by}
 use Rattle.apdu.specs.Writing.{data_fits, forward_fits}
 use Rattle.pdus.specs.declared.PduType.{PduType}
@@ -21,14 +21,11 @@ use Rattle.apdu.specs.declared.Kind.TheVariants as kind
 use Rattle.apdu.specs.declared.Data.{Data}
 use Rattle.apdu.specs.declared.Heading.{Heading}
 use Rattle.apdu.specs.declared.Forward.{Forward}
-use Rattle.apdu.specs.declared.Taken.{Taken}
-use Rattle.apdu.specs.declared.Forwarded.{Forwarded}
 use Rattle.apdu.specs.declared.Apdu.{Apdu}
 use Rattle.apdu.specs.declared.Apdu.TheVariants as is
-use Rattle.apdu.specs.declared.Decoded.{Decoded}
-use Rattle.apdu.specs.declared.Decoded.TheVariants as decoded
 use Rattle.plain.specs.Plain as plain
 use Rattle.plain.specs.Plain.{sent_by}
+use Rattle.fields.specs.declared.Refusal.{Refusal}
 
 abbrev pub user_last : Edition → ℕ
 user_last ed = user_reasons ed - 1
@@ -83,30 +80,30 @@ apdu_fits ed t li lm lc (is.ForwardResponse x) = forwards t && whole_fits 0 resp
 
 -- ---- reading
 
-abbrev pub start_at : Edition → PduType → List ℕ → ℕ → Taken
+abbrev pub start_at : Edition → PduType → List ℕ → ℕ → Reading Data
 start_at Protected t l at = reading.data_at l at
 start_at Plain t l at = plain.start_at (sent_by t) l at
 
-abbrev pub send_at : Edition → PduType → List ℕ → ℕ → Taken
+abbrev pub send_at : Edition → PduType → List ℕ → ℕ → Reading Data
 send_at Protected t l at = reading.data_at l at
 send_at Plain t l at = plain.send_at (sent_by t) l at
 
-abbrev pub forward_at : Edition → List ℕ → ℕ → Forwarded
+abbrev pub forward_at : Edition → List ℕ → ℕ → Reading Forward
 forward_at Protected l at = reading.forward_at l at
 forward_at Plain l at = plain.forward_at l at
 
-unfoldable pub rest_at : Edition → PduType → List ℕ → Kind → ℕ → ℕ → Decoded
-rest_at ed t l kind.AbortUser m at = onto decoded.Refused (extensible_index l at (user_last ed)) (λ (r next : ℕ). ended_at l next (is.AbortUser r))
-rest_at ed t l kind.AbortProvider m at = onto decoded.Refused (extensible_index l at provider_last) (λ (r next : ℕ). ended_at l next (is.AbortProvider r))
-rest_at ed t l kind.Start m at = on_data (start_at ed t l at) (λ (d : Data) (next : ℕ). ended_at l next (is.Start m d))
-rest_at ed t l kind.Send m at = on_data (send_at ed t l at) (λ (d : Data) (next : ℕ). ended_at l next (is.Send d))
-rest_at ed t l kind.Forward m at = on_forward decoded.Refused (forward_at ed l at) (λ (f : Forward) (next : ℕ). ended_at l next (is.Forward f))
-rest_at ed t l kind.ForwardResponse m at = onto decoded.Refused (extensible_index l at response_last) (λ (r next : ℕ). ended_at l next (is.ForwardResponse r))
+unfoldable pub rest_at : Edition → PduType → List ℕ → Kind → ℕ → ℕ → Result Apdu Refusal
+rest_at ed t l kind.AbortUser m at = then (extensible_index l at (user_last ed)) (λ (r next : ℕ). ended_at l next (is.AbortUser r))
+rest_at ed t l kind.AbortProvider m at = then (extensible_index l at provider_last) (λ (r next : ℕ). ended_at l next (is.AbortProvider r))
+rest_at ed t l kind.Start m at = then (start_at ed t l at) (λ (d : Data) (next : ℕ). ended_at l next (is.Start m d))
+rest_at ed t l kind.Send m at = then (send_at ed t l at) (λ (d : Data) (next : ℕ). ended_at l next (is.Send d))
+rest_at ed t l kind.Forward m at = then (forward_at ed l at) (λ (f : Forward) (next : ℕ). ended_at l next (is.Forward f))
+rest_at ed t l kind.ForwardResponse m at = then (extensible_index l at response_last) (λ (r next : ℕ). ended_at l next (is.ForwardResponse r))
 
-unfoldable pub apdu_at : Edition → PduType → List ℕ → Decoded
-apdu_at ed t l = on_lead (leading_at t l 0) (rest_at ed t l)
+unfoldable pub apdu_at : Edition → PduType → List ℕ → Result Apdu Refusal
+apdu_at ed t l = then (leading_at t l 0) (λ (x : Kind × ℕ) (next : ℕ). rest_at ed t l x.0 x.1 next)
 
 -- a forward message by itself, as it is delivered
-abbrev pub whole_forward : Edition → List ℕ → Forwarded
+abbrev pub whole_forward : Edition → List ℕ → Reading Forward
 whole_forward Protected l = reading.whole_forward l
 whole_forward Plain l = plain.whole_forward l

@@ -4,12 +4,9 @@ ghost use Rattle.apdu.specs.Pdus.{lent};
 ghost use Rattle.editions.specs.declared.Edition.TheVariants.{Plain};
 ghost use Rattle.codec.specs.Codec.{apdu_at, rest_at, whole_forward};
 
-use apdu::{
-    ALL, Apdu, Decoded, Forwarded, Kind, Lead, Taken, ended, forward_refusal, lead_refusal,
-    taken_refusal,
-};
+use apdu::{ALL, Apdu, Forward, Kind, ended};
 use editions::Edition;
-use fields::{Field, refusal_of};
+use fields::{Reading, Refusal};
 use pdus::PduType;
 use plain::{forward_at, send_at, sent_by, start_at};
 
@@ -17,63 +14,44 @@ use plain::{forward_at, send_at, sent_by, start_at};
 pub(crate) const USER_LAST: u64 = 6;
 
 // What follows the leading fields in type 2.
-fn rest_at(s: &[u8], pdus: PduType, kind: Kind, mode: u64, at: usize) -> Decoded
+#[tactic(auto, unfolding(crate::specs::Codec::rest_at))]
+fn rest_at(s: &[u8], pdus: PduType, kind: Kind, mode: u64, at: usize) -> Result<Apdu, Refusal>
     ensures { result ≡ rest_at Plain pdus (lent s.now) kind mode at }
 {
     match kind {
         Kind::AbortUser => {
-            let reason = fields::extensible_index(s, ALL, at, USER_LAST);
-            let Field::Value(r, next) = reason else {
-                return Decoded::Refused(refusal_of(reason));
-            };
+            let (r, next) = fields::extensible_index(s, ALL, at, USER_LAST)?;
             ended(s, next, Apdu::AbortUser(r))
         }
         Kind::AbortProvider => {
-            let reason = fields::extensible_index(s, ALL, at, Apdu::PROVIDER_LAST);
-            let Field::Value(r, next) = reason else {
-                return Decoded::Refused(refusal_of(reason));
-            };
+            let (r, next) = fields::extensible_index(s, ALL, at, Apdu::PROVIDER_LAST)?;
             ended(s, next, Apdu::AbortProvider(r))
         }
         Kind::Start => {
-            let parts = start_at(sent_by(pdus), s, at);
-            let Taken::Is(d, next) = parts else {
-                return Decoded::Refused(taken_refusal(parts));
-            };
+            let (d, next) = start_at(sent_by(pdus), s, at)?;
             ended(s, next, Apdu::Start(mode, d))
         }
         Kind::Send => {
-            let parts = send_at(sent_by(pdus), s, at);
-            let Taken::Is(d, next) = parts else {
-                return Decoded::Refused(taken_refusal(parts));
-            };
+            let (d, next) = send_at(sent_by(pdus), s, at)?;
             ended(s, next, Apdu::Send(d))
         }
         Kind::Forward => {
-            let message = forward_at(s, at);
-            let Forwarded::Is(f, next) = message else {
-                return Decoded::Refused(forward_refusal(message));
-            };
+            let (f, next) = forward_at(s, at)?;
             ended(s, next, Apdu::Forward(f))
         }
         Kind::ForwardResponse => {
-            let result = fields::extensible_index(s, ALL, at, Apdu::RESPONSE_LAST);
-            let Field::Value(r, next) = result else {
-                return Decoded::Refused(refusal_of(result));
-            };
+            let (r, next) = fields::extensible_index(s, ALL, at, Apdu::RESPONSE_LAST)?;
             ended(s, next, Apdu::ForwardResponse(r))
         }
     }
 }
 
 // The leading fields are the same in both editions.
-pub fn read_apdu(edition: Edition, s: &[u8], pdus: PduType) -> Decoded
+#[tactic(auto, unfolding(crate::specs::Codec::apdu_at), using(crate::proofs::Same::rest_same))]
+pub fn read_apdu(edition: Edition, s: &[u8], pdus: PduType) -> Result<Apdu, Refusal>
     ensures { result ≡ apdu_at edition pdus (lent s.now) }
 {
-    let leading = apdu::leading_at(s, 0, pdus);
-    let Lead::Is(kind, mode, next) = leading else {
-        return Decoded::Refused(lead_refusal(leading));
-    };
+    let ((kind, mode), next) = apdu::leading_at(s, 0, pdus)?;
     match edition {
         Edition::Plain => rest_at(s, pdus, kind, mode, next),
         Edition::Protected => apdu::rest_at(s, kind, mode, next),
@@ -81,7 +59,7 @@ pub fn read_apdu(edition: Edition, s: &[u8], pdus: PduType) -> Decoded
 }
 
 // A forward message by itself, as it is delivered to a user.
-pub fn read_forward(edition: Edition, s: &[u8]) -> Forwarded
+pub fn read_forward(edition: Edition, s: &[u8]) -> Reading<Forward>
     ensures { result ≡ whole_forward edition (lent s.now) }
 {
     match edition {

@@ -5,13 +5,14 @@ ghost use Rattle.apdu.specs.Sizes.{bit};
 ghost use Rattle.apdu.specs.Pdus.{abort_user, content_in, forward, forwards, items_in, lent, send, start};
 ghost use Rattle.apdu.specs.Encoding.{mode_fits};
 ghost use Rattle.apdu.specs.Writing.{data_fits, done, forward_fits, write_out};
-ghost use Rattle.codec.specs.Codec.{counted, forward_given_fits, given_fits, pdu_bits, user_last};
+ghost use Rattle.codec.specs.Codec.{forward_given_fits, given_fits, pdu_bits, user_last};
 
 use crate::reading::USER_LAST;
-use apdu::{Data, Forward, Written};
+use apdu::{Data, Forward};
 use editions::Edition;
 use pdus::PduType;
 use plain::sent_by;
+use words::Unwritten;
 
 // Message data that the host gives to a side that writes a type.
 pub fn given_fits(
@@ -34,15 +35,13 @@ pub fn given_fits(
 pub fn forward_given_fits(edition: Edition, f: Forward, msgs: &[u8]) -> bool
     ensures { result ≡ forward_given_fits edition (lent msgs.now) f }
 {
-    if !apdu::forward_fits(f, msgs) {
-        return false;
-    }
     match edition {
         Edition::Plain => plain::forward_given_fits(f, msgs),
-        Edition::Protected => true,
+        Edition::Protected => apdu::forward_fits(f, msgs),
     }
 }
 
+#[tactic(auto, unfolding(crate::specs::Codec::pdu_bits, apdu::specs::Encoding::pdu_bits, apdu::specs::Pdus::content_in))]
 pub fn put_start(
     edition: Edition,
     buf: &mut [u8],
@@ -52,7 +51,7 @@ pub fn put_start(
     ids: &[u8],
     msgs: &[u8],
     checks: &[u8],
-) -> Written
+) -> Result<usize, Unwritten>
     ensures { done result buf.new ≡ write_out (mode_fits pdus m && data_fits (lent ids.now) (lent msgs.now) (lent checks.now) d) buf.old (pdu_bits edition pdus (start m (content_in (lent ids.now) (lent msgs.now) (lent checks.now) d))) }
 {
     match edition {
@@ -61,6 +60,7 @@ pub fn put_start(
     }
 }
 
+#[tactic(auto, unfolding(crate::specs::Codec::pdu_bits, apdu::specs::Encoding::pdu_bits, apdu::specs::Pdus::content_in))]
 pub fn put_send(
     edition: Edition,
     buf: &mut [u8],
@@ -69,7 +69,7 @@ pub fn put_send(
     ids: &[u8],
     msgs: &[u8],
     checks: &[u8],
-) -> Written
+) -> Result<usize, Unwritten>
     ensures { done result buf.new ≡ write_out (data_fits (lent ids.now) (lent msgs.now) (lent checks.now) d) buf.old (pdu_bits edition pdus (send (content_in (lent ids.now) (lent msgs.now) (lent checks.now) d))) }
 {
     match edition {
@@ -78,7 +78,13 @@ pub fn put_send(
     }
 }
 
-pub fn put_abort_user(edition: Edition, buf: &mut [u8], pdus: PduType, reason: u64) -> Written
+#[tactic(auto, unfolding(crate::specs::Codec::pdu_bits, apdu::specs::Encoding::pdu_bits))]
+pub fn put_abort_user(
+    edition: Edition,
+    buf: &mut [u8],
+    pdus: PduType,
+    reason: u64,
+) -> Result<usize, Unwritten>
     ensures { done result buf.new ≡ write_out (whole_fits 0 (user_last edition) reason) buf.old (pdu_bits edition pdus (abort_user reason)) }
 {
     match edition {
@@ -87,24 +93,16 @@ pub fn put_abort_user(edition: Edition, buf: &mut [u8], pdus: PduType, reason: u
     }
 }
 
-// Whether a forward's message stands behind its count.
-fn is_counted(edition: Edition) -> bool
-    ensures { result ≡ counted edition }
-{
-    match edition {
-        Edition::Plain => false,
-        Edition::Protected => true,
-    }
-}
-
+#[tactic(auto, unfolding(crate::specs::Codec::pdu_bits))]
 pub fn put_forward_pdu(
     edition: Edition,
     buf: &mut [u8],
     pdus: PduType,
     f: Forward,
     msgs: &[u8],
-) -> Written
+) -> Result<usize, Unwritten>
     ensures { done result buf.new ≡ write_out (forwards pdus && forward_fits (lent msgs.now) f) buf.old (pdu_bits edition pdus (forward f.heading (items_in (lent msgs.now) bit f.message))) }
 {
-    apdu::put_forward_by(buf, pdus, is_counted(edition), f, msgs)
+    // Its message stands behind its count in type 22.
+    apdu::put_forward_by(buf, pdus, edition == Edition::Protected, f, msgs)
 }

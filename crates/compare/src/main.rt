@@ -8,7 +8,6 @@
 
 ghost use Rattle.std.specs.Prelude.{◌≤◌, length, IfOk};
 
-use bits::Read;
 use recordings::Compared;
 use recordings::comparing::compare;
 use recordings::differing::rest;
@@ -18,13 +17,6 @@ use std::io;
 use std::io::Read as _;
 use std::rt::{Env, Files};
 use std::str::from_utf8;
-
-// What became of a file: how many bytes were read; or nothing, since it cannot be read.
-#[derive(Drop)]
-enum Filled {
-    Bytes(usize),
-    Not,
-}
 
 // A byte more than a recording may have, so that a longer file is seen to be too long.
 fn recording_buffer() -> [u8; 32769] {
@@ -81,10 +73,8 @@ fn say_refusal(rt: &impl Print, number: u64) {
 // The first so many jobs of a list, the others behind the first with words between.
 fn say_jobs(rt: &impl Print, list: &[u8], count: usize, between: &[u8]) {
     let mut at: usize = 0;
-    let mut left = count;
-    while 0 < left {
-        let one = bits::read_bits(list, usize::MAX, at, 64);
-        let Read::Number(job, next) = one else {
+    for _ in 0..count {
+        let Some((job, next)) = bits::read_bits(list, usize::MAX, at, 64) else {
             return;
         };
         if at != 0 {
@@ -92,7 +82,6 @@ fn say_jobs(rt: &impl Print, list: &[u8], count: usize, between: &[u8]) {
         }
         say_number(rt, job);
         at = next;
-        left -= 1;
     }
 }
 
@@ -275,19 +264,19 @@ fn fill_named(rt: &impl Files, name: &str, buf: &mut [u8]) -> io::Result<usize> 
     fill_from(&mut file, buf)
 }
 
-// The file that an argument names, into a buffer.
-fn fill(rt: &(impl Env + Files + Eprint), number: usize, buf: &mut [u8]) -> Filled {
+// The file that an argument names, into a buffer: how many bytes were read; none where it cannot be read.
+fn fill(rt: &(impl Env + Files + Eprint), number: usize, buf: &mut [u8]) -> Option<usize> {
     let mut path = path_buffer();
     let n = argument(rt, number, &mut path);
     let Ok(name) = from_utf8(&path[..n]) else {
         let _ = eprintln!(rt; "a path is not text");
-        return Filled::Not;
+        return None;
     };
     match fill_named(rt, name, buf) {
-        Ok(got) => Filled::Bytes(got),
+        Ok(got) => Some(got),
         Err(e) => {
             let _ = eprintln!(rt; "{name}: {e}");
-            Filled::Not
+            None
         }
     }
 }
@@ -295,12 +284,10 @@ fn fill(rt: &(impl Env + Files + Eprint), number: usize, buf: &mut [u8]) -> Fill
 fn run(rt: &(impl Env + Files + Print + Eprint), json: bool, one: usize, other: usize) {
     let mut first = recording_buffer();
     let mut second = recording_buffer();
-    let read = fill(rt, one, &mut first);
-    let Filled::Bytes(m) = read else {
+    let Some(m) = fill(rt, one, &mut first) else {
         return;
     };
-    let read = fill(rt, other, &mut second);
-    let Filled::Bytes(n) = read else {
+    let Some(n) = fill(rt, other, &mut second) else {
         return;
     };
     show_parts(rt, json, &first, m, &second, n);
@@ -310,15 +297,7 @@ fn run(rt: &(impl Env + Files + Print + Eprint), json: bool, one: usize, other: 
 fn asks_json(rt: &impl Env) -> bool {
     let mut word = [0u8; 8];
     let n = argument(rt, 1, &mut word);
-    if n != 6 {
-        return false;
-    }
-    word[0] == b'-'
-        && word[1] == b'-'
-        && word[2] == b'j'
-        && word[3] == b's'
-        && word[4] == b'o'
-        && word[5] == b'n'
+    word[..n] == b"--json"[..]
 }
 
 // Whether there is an argument of this number.

@@ -3,17 +3,17 @@
 #![tactic(auto)]
 
 ghost use Rattle.std.specs.Prelude.{◌≡◌};
-ghost use Rattle.control.specs.Control.{number, is, same, within, other, may_start, ender, marked, started, ended, takes, goes, takes_forward, forwarding, awaits_response, waits, expects, after};
+ghost use Rattle.control.specs.Control.{number, within, other, may_start, ender, marked, started, ended, takes, goes, takes_forward, forwarding, awaits_response, waits, expects, after};
 
 // The side that a machine stands at.
-#[derive(Clone, Copy)]
+#[derive(Clone, Copy, PartialEq, Eq)]
 pub enum Side {
     Air,
     Ground,
 }
 
 // Doc 9880 3.5.5.1.5. FORWARD is the ground machine's alone.
-#[derive(Clone, Copy)]
+#[derive(Clone, Copy, PartialEq, Eq)]
 pub enum State {
     Idle,
     StartReq,
@@ -70,36 +70,18 @@ pub enum Primitive {
     DPAbort,
 }
 
-pub fn number(s: State) -> u64
-    ensures { result ≡ number s }
-{
-    match s {
-        State::Idle => 0,
-        State::StartReq => 1,
-        State::StartInd => 2,
-        State::Dialogue => 3,
-        State::End => 4,
-        State::Forward => 5,
+impl From<State> for u64 {
+    ghost from_gives = { λ s n. n ≡ number s };
+
+    fn from(s: State) -> u64 {
+        s as u64
     }
-}
-
-pub fn is(a: State, b: State) -> bool
-    ensures { result ≡ is a b }
-{
-    number(a) == number(b)
-}
-
-pub fn same(a: bool, b: bool) -> bool
-    ensures { result ≡ same a b }
-{
-    if a { b } else { !b }
 }
 
 fn within(c: Control, s: State, dsc: bool) -> bool
     ensures { result ≡ within c s dsc }
 {
-    let t = c.state;
-    is(t, s) && same(dsc, c.dsc)
+    c.state == s && dsc == c.dsc
 }
 
 fn other(side: Side) -> Side
@@ -133,7 +115,7 @@ fn ender(side: Side, dsc: bool) -> bool
 fn marked(dsc: bool, held: bool) -> bool
     ensures { result ≡ marked dsc held }
 {
-    if dsc { true } else { held }
+    dsc || held
 }
 
 fn started(a: Reply, dsc: bool) -> Control
@@ -164,18 +146,14 @@ fn ended(a: Reply, dsc: bool) -> Control
 fn waits(s: State) -> bool
     ensures { result ≡ waits s }
 {
-    is(s, State::StartReq) || is(s, State::Forward)
+    s == State::StartReq || s == State::Forward
 }
 
 // Is a forward request taken? The air machine has none.
 pub fn takes_forward(side: Side, c: Control) -> bool
     ensures { result ≡ takes_forward side c }
 {
-    let s = c.state;
-    match side {
-        Side::Air => false,
-        Side::Ground => is(s, State::Idle),
-    }
+    side == Side::Ground && c.state == State::Idle
 }
 
 // Where a forward request leads.
@@ -192,8 +170,7 @@ pub fn forwarding(c: Control) -> Control
 pub fn awaits_response(c: Control) -> bool
     ensures { result ≡ awaits_response c }
 {
-    let s = c.state;
-    is(s, State::Forward)
+    c.state == State::Forward
 }
 
 pub fn takes(side: Side, c: Control, call: Call) -> bool
@@ -201,15 +178,14 @@ pub fn takes(side: Side, c: Control, call: Call) -> bool
 {
     let s = c.state;
     match call {
-        Call::StartRequest(dsc) => is(s, State::Idle) && may_start(side, dsc),
+        Call::StartRequest(dsc) => s == State::Idle && may_start(side, dsc),
         Call::StartResponse(dsc, _) => within(c, State::StartInd, dsc)
             && may_start(other(side), dsc),
-        Call::MessageRequest => is(s, State::Dialogue) || is(s, State::End) && !ender(side, c.dsc),
+        Call::MessageRequest => s == State::Dialogue || s == State::End && !ender(side, c.dsc),
         Call::EndRequest(dsc) => within(c, State::Dialogue, dsc) && ender(side, dsc),
         Call::EndResponse(dsc, _) => within(c, State::End, dsc) && !ender(side, dsc),
-        Call::UserAbort => !is(s, State::Idle),
+        Call::UserAbort | Call::SystemError => s != State::Idle,
         Call::TimerExpiry => waits(s),
-        Call::SystemError => !is(s, State::Idle),
     }
 }
 
@@ -228,9 +204,7 @@ pub fn goes(c: Control, call: Call) -> Control
             dsc: c.dsc,
         },
         Call::EndResponse(_, a) => ended(a, c.dsc),
-        Call::UserAbort => Control::CLOSED,
-        Call::TimerExpiry => Control::CLOSED,
-        Call::SystemError => Control::CLOSED,
+        Call::UserAbort | Call::TimerExpiry | Call::SystemError => Control::CLOSED,
     }
 }
 
@@ -239,14 +213,14 @@ pub fn expects(side: Side, c: Control, p: Primitive) -> bool
 {
     let s = c.state;
     match p {
-        Primitive::DStart(dsc) => is(s, State::Idle) && may_start(other(side), dsc),
-        Primitive::DStartCnf(_) => is(s, State::StartReq) && may_start(side, c.dsc),
-        Primitive::DTurnedAway => is(s, State::StartReq) && may_start(side, c.dsc),
-        Primitive::DData => is(s, State::Dialogue) || is(s, State::End) && ender(side, c.dsc),
-        Primitive::DEnd => is(s, State::Dialogue) && !ender(side, c.dsc),
-        Primitive::DEndCnf(_) => is(s, State::End) && ender(side, c.dsc),
-        Primitive::DAbort => !is(s, State::Idle),
-        Primitive::DPAbort => !is(s, State::Idle),
+        Primitive::DStart(dsc) => s == State::Idle && may_start(other(side), dsc),
+        Primitive::DStartCnf(_) | Primitive::DTurnedAway => {
+            s == State::StartReq && may_start(side, c.dsc)
+        }
+        Primitive::DData => s == State::Dialogue || s == State::End && ender(side, c.dsc),
+        Primitive::DEnd => s == State::Dialogue && !ender(side, c.dsc),
+        Primitive::DEndCnf(_) => s == State::End && ender(side, c.dsc),
+        Primitive::DAbort | Primitive::DPAbort => s != State::Idle,
     }
 }
 
@@ -259,14 +233,12 @@ pub fn after(c: Control, p: Primitive) -> Control
             dsc: marked(dsc, c.dsc),
         },
         Primitive::DStartCnf(a) => started(a, c.dsc),
-        Primitive::DTurnedAway => Control::CLOSED,
+        Primitive::DTurnedAway | Primitive::DAbort | Primitive::DPAbort => Control::CLOSED,
         Primitive::DData => c,
         Primitive::DEnd => Control {
             state: State::End,
             dsc: c.dsc,
         },
         Primitive::DEndCnf(a) => ended(a, c.dsc),
-        Primitive::DAbort => Control::CLOSED,
-        Primitive::DPAbort => Control::CLOSED,
     }
 }

@@ -2,17 +2,17 @@
 -- other: the other end's steps do not look at this record while no start is passed on; what this host tells its broker does not depend on it; and the failure, when
 -- the other end hears of it too, leaves the same record in both.
 -- Assumes nothing.
-use mathlib.Core.Path.{◌≡◌, refl, ap, sym, ◌∙◌, subst}
-use mathlib.Core.Bool.{Bool, true, false, not, cond, ◌&&◌, ◌||◌}
+use mathlib.Core.Path.{◌≡◌, refl, ap, sym, ◌∙◌}
+use mathlib.Core.Bool.{Bool, true, false, not, cond, ◌||◌}
 use mathlib.Core.List.{List, [], ◌∷◌}
 use Prim.Native.Nat.{ℕ}
-use lib.Dec.{T, eqb}
-use Rattle.pair.specs.Names.{Side, Control, is_idle, closed, DPAbort, meets, hands}
-use Rattle.pair.specs.Carrier.{Body, Sent, nothing, puts, message, Outcome, refused, acts, Sort, begins, breaks, plain, Step, user_call, hand_over, timer_expires_of, error_reported, turn_away, fail, idle, starts, discards}
-use Rattle.pair.specs.Numbered.{NMachine, NParty, NSys, Numbered, mark, n_put, n_took, n_sent, n_left, n_did, n_called, n_off, n_handed_over, n_may_turn_away, n_recalled, n_turned_away, n_stepped}
+use lib.Dec.{eqb}
+use Rattle.pair.specs.Names.{Side, is_idle, closed}
+use Rattle.pair.specs.Carrier.{Sent, nothing, puts, message, Outcome, refused, acts, Sort, begins, breaks, plain, Step, user_call, hand_over, timer_expires_of, error_reported, turn_away, fail, starts, discards}
+use Rattle.pair.specs.Numbered.{NMachine, NSys, Numbered, mark, n_put, n_took, n_sent, n_left, n_did, n_called, n_off, n_handed_over, n_may_turn_away, n_recalled, n_turned_away, n_stepped}
 use Rattle.pair.proofs.ControlMachine.{Held, held, control}
 use Rattle.pair.proofs.NumberedMachine.{numbered}
-use Rattle.duties.specs.Memory.{Notes, is_decided}
+use Rattle.duties.specs.Memory.{is_decided}
 use Rattle.duties.specs.Host.{right, Host, Hosts, Act, deliver, lay_aside, happens, end_confirmed_of, shows, release, acknowledge, connection_released, give_up, keep, power_fails, cut_off, carrier_fails, refusing, laid_aside, acknowledges, with_rec, alone}
 use Rattle.duties.proofs.Heard.{Lasting}
 use Rattle.duties.proofs.ControlHosts.{lost_closes}

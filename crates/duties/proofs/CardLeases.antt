@@ -11,7 +11,7 @@ use Rattle.pair.specs.Names.{Side, Air, Ground}
 use Rattle.pair.specs.Numbered.{not_below}
 use Rattle.card_pair.specs.CardMachine.{Buffers, Given, Asked, Kept, newly, card_machine}
 use Rattle.card_pair.specs.Promise.{Begins}
-use Rattle.duties.specs.Host.{right, Hosts, d_fresh}
+use Rattle.duties.specs.Host.{right, d_fresh}
 use Rattle.duties.specs.Leases.{LMove, l_run, alone_first}
 use Rattle.duties.specs.Promise.{DutyPromise}
 use Rattle.duties.proofs.CardWholes.{card_accepts}

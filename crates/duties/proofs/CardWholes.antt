@@ -1,8 +1,8 @@
 -- What an accepted end finds, of the exported calls: from the control, over the machines that agree with it.
 -- Assumes nothing.
-use mathlib.Core.Path.{◌≡◌, refl, ap, sym, subst}
+use mathlib.Core.Path.{◌≡◌, refl, ap, subst}
 use mathlib.Core.Bool.{Bool, true, false, cond}
-use mathlib.Core.List.{List, []}
+use mathlib.Core.List.{List}
 use Prim.Native.Nat.{ℕ}
 use borrow.Author.Tests.{lt-ltb}
 use lib.Dec.{T, eqb, ltb}
@@ -14,7 +14,7 @@ use Rattle.machine.specs.declared.record.Record.{Record}
 use Rattle.machine.specs.declared.event.UserData.{UserData}
 use Rattle.machine.specs.declared.event.UserData.TheVariants.{Absent, NotValid, Start, Send, AbortUser, AbortProvider, Forward, ForwardResponse}
 use Rattle.machine.specs.declared.outcome.Invoked.{Invoked}
-use Rattle.machine.specs.declared.outcome.Invoked.TheVariants.{Silent, DStartRequest, DStartResponse, DDataRequest, DEndRequest, DEndResponse, DAbortRequest, DStartForwardRequest, DStartForwardResponse}
+use Rattle.machine.specs.declared.outcome.Invoked.TheVariants.{DStartRequest, DStartResponse, DDataRequest, DEndRequest, DEndResponse, DAbortRequest, DStartForwardRequest, DStartForwardResponse}
 use Rattle.pair.specs.Names.{Side, Air, Ground, Accepted, Rejected, Primitive, DEndCnf, closed}
 use Rattle.pair.specs.Carrier.{Body, Turn}
 use Rattle.pair.specs.Numbered.{NSys, Numbered, mark, not_below, n_swap, n_fresh, n_run}
@@ -38,18 +38,19 @@ use Rattle.duties.proofs.EndConfirmed.{says_yes, answers_yes}
 use Rattle.duties.proofs.Heard.{Hands}
 use Rattle.duties.proofs.Steps.{Whole}
 use Rattle.duties.proofs.Wholes.{control_whole, both_whole_too, control_hands, both_hands_too}
+use Rattle.std.specs.Prelude.{None, Option, Some}
 
 -- the primitive is the answer "accepted" to D-END
-abbrev pub agrees_to : Invoked → Bool
-agrees_to Silent = false
-agrees_to (DStartRequest q s) = false
-agrees_to (DStartResponse x s) = false
-agrees_to DDataRequest = false
-agrees_to DEndRequest = false
-agrees_to (DEndResponse x) = eqb x accepted
-agrees_to (DAbortRequest o) = false
-agrees_to (DStartForwardRequest q s v) = false
-agrees_to (DStartForwardResponse s v) = false
+abbrev pub agrees_to : Option Invoked → Bool
+agrees_to None = false
+agrees_to (Some (DStartRequest q s)) = false
+agrees_to (Some (DStartResponse x s)) = false
+agrees_to (Some DDataRequest) = false
+agrees_to (Some DEndRequest) = false
+agrees_to (Some (DEndResponse x)) = eqb x accepted
+agrees_to (Some (DAbortRequest o)) = false
+agrees_to (Some (DStartForwardRequest q s v)) = false
+agrees_to (Some (DStartForwardResponse s v)) = false
 
 abbrev pub card_accepts : Numbered Wire → Bool
 card_accepts w = agrees_to w.it.primitive
@@ -74,19 +75,19 @@ send_kind t u k (AbortProvider x) b f e = never f e
 send_kind t u k Forward b f e = never f e
 send_kind t u k (ForwardResponse x) b f e = never f e
 
-means_yes : (ed : Edition) (p : ℕ) (i : Invoked) (x : Read) (f : Ent) → meaning ed p i x ≡ known f → T (agrees_to i) → T (says_yes f.kind)
-means_yes ed p Silent x f e t = absurd t
-means_yes ed p (DStartRequest q s) x f e t = absurd t
-means_yes ed p (DStartResponse y s) x f e t = absurd t
-means_yes ed p DDataRequest x f e t = absurd t
-means_yes ed p DEndRequest x f e t = absurd t
-means_yes ed p (DEndResponse y) fault f e t = never f e
-means_yes ed p (DEndResponse y) (got a b) f e t =
+means_yes : (ed : Edition) (p : ℕ) (i : Option Invoked) (x : Read) (f : Ent) → meaning ed p i x ≡ known f → T (agrees_to i) → T (says_yes f.kind)
+means_yes ed p None x f e t = absurd t
+means_yes ed p (Some (DStartRequest q s)) x f e t = absurd t
+means_yes ed p (Some (DStartResponse y s)) x f e t = absurd t
+means_yes ed p (Some DDataRequest) x f e t = absurd t
+means_yes ed p (Some DEndRequest) x f e t = absurd t
+means_yes ed p (Some (DEndResponse y)) fault f e t = never f e
+means_yes ed p (Some (DEndResponse y)) (got a b) f e t =
     subst (λ (k : Primitive). T (says_yes k)) (send_kind (spares ed) true (DEndCnf (reply_of y)) a b f
     (known_if (ltb y results) (send_of (spares ed) true (DEndCnf (reply_of y)) a b) f e).1) (reply_yes y t)
-means_yes ed p (DAbortRequest o) x f e t = absurd t
-means_yes ed p (DStartForwardRequest q s v) x f e t = absurd t
-means_yes ed p (DStartForwardResponse s v) x f e t = absurd t
+means_yes ed p (Some (DAbortRequest o)) x f e t = absurd t
+means_yes ed p (Some (DStartForwardRequest q s v)) x f e t = absurd t
+means_yes ed p (Some (DStartForwardResponse s v)) x f e t = absurd t
 
 -- ---- so it holds of the cards
 
@@ -131,7 +132,7 @@ module _ (p : ℕ) (ed : Edition) (host : Side → ℕ → Buffers) (fair : secu
       record {
         wholes =
             both_whole_too (card_machine p host) K (card-agrees p ed host) card_accepts card_accepts
-            (λ (sd : Side) (e w : Numbered Wire) (z : Carries ed sd e w). subst (λ (j : Invoked). T (agrees_to j))
+            (λ (sd : Side) (e w : Numbered Wire) (z : Carries ed sd e w). subst (λ (j : Option Invoked). T (agrees_to j))
             z.primitive) (Reached ts) s1 f.rel
             (both_whole_too K N same card_accepts card_accepts (λ (sd : Side) (e w : Numbered Wire) (z : e ≡ w). subst (λ (j : Numbered Wire). T (card_accepts j)) z) s1 s2 h.rel
             (both_whole_too N (numbered control) low card_accepts answers_yes

@@ -3,14 +3,14 @@
 -- Assumes nothing.
 use mathlib.Core.Path.{◌≡◌, refl, ap, sym, ◌∙◌, subst}
 use mathlib.Core.Bool.{Bool, true, false, not, cond, ◌&&◌, ◌||◌}
-use mathlib.Core.List.{List, [], ◌∷◌, ◌++◌, append-nil, append_assoc}
-use Prim.Native.Nat.{ℕ, suc}
+use mathlib.Core.List.{List, [], ◌++◌, append-nil, append_assoc}
+use Prim.Native.Nat.{ℕ}
 use lib.Dec.{eqb}
 use Rattle.pair.specs.Names.{Side}
-use Rattle.pair.specs.Carrier.{Body, nothing, puts, message, Outcome, refused, acts, Step, user_call, hand_over}
+use Rattle.pair.specs.Carrier.{nothing, puts, message, Outcome, refused, acts, Step, user_call, hand_over}
 use Rattle.pair.specs.Numbered.{NMachine, NSys, n_stepped}
-use Rattle.duties.specs.Memory.{Notice, Notes, is_decided, declines, tells, told_ended, told_broken, Took}
-use Rattle.duties.specs.Host.{right, Host, Hosts, Act, deliver, lay_aside, happens, end_confirmed_of, shows, release, acknowledge, connection_released, give_up, keep, power_fails, cut_off, carrier_fails, Power, up, apart, down, commits, ready, afterwards, sends_job, taking, refusing, passes, offered, delivered, laid_aside, arrived, may_happen, sees_break, happened, end_arrives, ending, end_confirmed, acknowledges, sees_release, settled, lost, acted, alone, waited, powered, d_stepped}
+use Rattle.duties.specs.Memory.{Notice, Notes, is_decided, tells, told_ended, told_broken, Took}
+use Rattle.duties.specs.Host.{right, Host, Hosts, Act, deliver, lay_aside, happens, end_confirmed_of, shows, release, acknowledge, connection_released, give_up, keep, power_fails, cut_off, carrier_fails, Power, up, apart, down, ready, afterwards, sends_job, taking, refusing, passes, offered, delivered, laid_aside, arrived, may_happen, sees_break, happened, end_arrives, ending, acknowledges, sees_release, settled, lost, acted, alone, waited, powered, d_stepped}
 use Rattle.duties.proofs.Steps.{DGood}
 
 pub record Grows (a b : List Notice) : Type 0 where

@@ -1,14 +1,14 @@
 -- Several hosts with one journal: a takeover is a run of the model with one host at each end, the power fails and the host comes up; what a deposed host tries is no step of it. So the
 -- promise holds of them too. And without the fence it does not.
 -- Assumes nothing.
-use mathlib.Core.Path.{◌≡◌, refl, ap, sym, ◌∙◌, subst}
-use mathlib.Core.Bool.{Bool, true, false}
+use mathlib.Core.Path.{◌≡◌, refl, ap, sym, ◌∙◌}
+use mathlib.Core.Bool.{Bool, true}
 use mathlib.Core.List.{List, [], ◌∷◌, ◌++◌}
 use Prim.Native.Nat.{ℕ}
 use Rattle.pair.specs.Names.{Side, Air, Ground}
 use Rattle.pair.specs.Numbered.{NMachine, starter}
 use Rattle.duties.specs.Host.{Habits, Power, up, apart, down, Hosts, Act, power_fails, cut_off, Move, d_swap, powered, d_stepped, d_turned, d_run}
-use Rattle.duties.specs.Leases.{Shared, Shift, holder, takes_over, wakes, LMove, take_over, l_stepped, l_turned, l_run}
+use Rattle.duties.specs.Leases.{Shared, Shift, holder, takes_over, wakes, LMove, take_over, l_turned, l_run}
 
 -- ---- the moves of a shift
 

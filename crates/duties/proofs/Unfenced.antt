@@ -4,12 +4,12 @@ use mathlib.Core.Path.{◌≡◌, refl}
 use mathlib.Core.Bool.{Bool, true, false}
 use mathlib.Core.List.{List, [], ◌∷◌, ◌++◌}
 use Prim.Native.Nat.{ℕ}
-use Rattle.pair.specs.Names.{Side, Air, Ground}
+use Rattle.pair.specs.Names.{Air, Ground}
 use Rattle.pair.specs.Numbered.{Numbered, mark}
 use Rattle.pair.proofs.ControlMachine.{Ask, new, control}
 use Rattle.pair.proofs.NumberedMachine.{numbered}
 use Rattle.duties.specs.Memory.{told_ended, told_broken, note, Notice}
-use Rattle.duties.specs.Host.{right, Act, deliver, release, power_fails, carrier_fails, Move, d_fresh}
+use Rattle.duties.specs.Host.{right, deliver, carrier_fails, Move, d_fresh}
 use Rattle.duties.specs.Leases.{Shared, holder, takes_over, wakes, LMove, l_run, alone_first}
 use Rattle.duties.specs.Promise.{times}
 use Rattle.duties.proofs.Against.{letter_of, fresh_of, opening, closing, sends, gets, restart, false_at}

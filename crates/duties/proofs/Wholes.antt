@@ -1,17 +1,17 @@
 -- What an accepted end finds, carried from the control to every machine that agrees with it: all that the end which asked took in the dialogue was handed out.
 -- Assumes nothing.
 use mathlib.Core.Path.{◌≡◌, refl, ap, sym, ◌∙◌, subst}
-use mathlib.Core.Bool.{Bool, true, false, not, cond, ◌&&◌, ◌||◌}
+use mathlib.Core.Bool.{Bool, true, false, not, cond, ◌&&◌}
 use mathlib.Core.List.{List, [], ◌∷◌}
 use Prim.Native.Nat.{ℕ}
 use lib.Dec.{T, eqb, ltb}
-use Rattle.pair.specs.Names.{Side, Air, Ground, State, Idle, StartReq, StartInd, Dialogue, End, Forward, Control, Call, TimerExpiry, SystemError, entered, is, is_idle, is_data, Did, quiet, aborts, meets, hands, Accepted, Rejected, Primitive, DStart, DStartCnf, DTurnedAway, DData, DEnd, DEndCnf, DAbort, DPAbort, closed, other, expects}
+use Rattle.pair.specs.Names.{Side, Air, Ground, State, Idle, StartReq, StartInd, Dialogue, End, Forward, Control, TimerExpiry, SystemError, entered, is, is_idle, Did, quiet, aborts, meets, hands, Accepted, Rejected, Primitive, DStart, DStartCnf, DTurnedAway, DData, DEnd, DEndCnf, DAbort, DPAbort, closed, other, expects}
 use Rattle.control.specs.Control.{deaf}
 use Rattle.pair.specs.Carrier.{Body, Sent, nothing, puts, message, Outcome, refused, acts, Turn, idle, is_start, starts}
-use Rattle.pair.specs.Numbered.{NMachine, NParty, NSys, Numbered, mark, not_below, within, n_swap, n_fresh, n_run}
-use Rattle.pair.proofs.ControlMachine.{Held, held, Ent, ent, Ask, ask, may_call, moved, sent_by, call_of, met, handed, receives, control}
+use Rattle.pair.specs.Numbered.{NMachine, NSys, Numbered, mark, not_below, n_swap, n_fresh, n_run}
+use Rattle.pair.proofs.ControlMachine.{Held, Ent, ent, Ask, ask, may_call, moved, sent_by, call_of, met, handed, receives, control}
 use Rattle.pair.proofs.NumberedMachine.{leaves, numbers, meets_no, numbered}
-use Rattle.pair.proofs.Agree.{Still, OutRel, Follows, stays, does}
+use Rattle.pair.proofs.Agree.{OutRel, Follows, stays, does}
 use Rattle.pair.proofs.NumberedLines.{eq_no}
 use Rattle.pair.proofs.NumberedSimulate.{NAgree, NSysRel}
 use Rattle.pair.proofs.Lines.{LL}

@@ -4,7 +4,7 @@ use Rattle.std.specs.Prelude.{ℕ, zero, suc, Bool, false, cond, List, [], ◌�
 use Rattle.pair.specs.Names.{Side, Air, Ground}
 use Rattle.pair.specs.Numbered.{NMachine, starter}
 use Rattle.duties.specs.Memory.{Notes}
-use Rattle.duties.specs.Host.{Habits, Power, up, apart, down, Host, Hosts, Act, is_nil, d_swap, with_rec, lost, cut_off_of, acted, d_stepped}
+use Rattle.duties.specs.Host.{Habits, Power, up, apart, down, Hosts, Act, d_swap, with_rec, lost, cut_off_of, acted, d_stepped}
 
 -- a host that had the dialogue: what it has in memory
 pub record Deposed (m : NMachine) : Type 0 where

@@ -4,12 +4,11 @@
 ghost use Rattle.std.specs.Prelude.{◌≡◌};
 ghost use Rattle.editions.specs.Editions.{edition_of, is_type, secures, spares, type_of, user_reasons};
 
-#[derive(Clone, Copy)]
+// Each by its application type.
+#[derive(Clone, Copy, PartialEq, Eq)]
 pub enum Edition {
-    // Application type 2.
-    Plain,
-    // Application type 22.
-    Protected,
+    Plain = 2,
+    Protected = 22,
 }
 
 impl Edition {
@@ -38,30 +37,21 @@ impl Edition {
     pub fn number(self) -> u64
         ensures { result ≡ type_of self }
     {
-        match self {
-            Edition::Plain => 2,
-            Edition::Protected => 22,
-        }
+        self as u64
     }
 
     // Is security a parameter, and compared?
     pub fn secures(self) -> bool
         ensures { result ≡ secures self }
     {
-        match self {
-            Edition::Plain => false,
-            Edition::Protected => true,
-        }
+        self == Edition::Protected
     }
 
     // Is user data left out where there is no message?
     pub fn spares(self) -> bool
         ensures { result ≡ spares self }
     {
-        match self {
-            Edition::Plain => true,
-            Edition::Protected => false,
-        }
+        self == Edition::Plain
     }
 
     // The values of CPDLCUserAbortReason.

@@ -1,25 +1,22 @@
 -- A code of four digits: what is written is read back, and what is read stands there.
 -- Assumes nothing.
-use mathlib.Core.Path.{◌≡◌, refl, sym, ap, ◌∙◌}
-use mathlib.Core.Bool.{true, ◌&&◌}
-use mathlib.Core.List.{List, [], ◌∷◌, ◌++◌}
-use Prim.Native.Nat.{ℕ, ◌+◌}
+use mathlib.Core.Path.{◌≡◌, refl, sym, ◌∙◌}
+use mathlib.Core.Bool.{true}
+use mathlib.Core.List.{List, [], ◌∷◌}
+use Prim.Native.Nat.{ℕ}
 use native.Mathlib.Nat.{add-zero}
-use lib.ListN.{length}
 use Rattle.bits.proofs.Numbers.{Bits}
-use Rattle.fields.specs.Fields.{whole_number, onto}
+use Rattle.words.proofs.Laws.{ok_place, ok_value}
+use Rattle.fields.specs.Fields.{Reading, whole_number}
 use Rattle.fields.specs.Encodings.{whole_bits, whole_fits}
-use Rattle.fields.specs.declared.Refusal.{Refusal}
-use Rattle.fields.specs.declared.Field.TheVariants as field
-use Rattle.elements.specs.declared.values.CodeRead.{CodeRead}
-use Rattle.elements.specs.declared.values.Step.TheVariants as step
-use Rattle.elements.specs.Arguments.{digit, digits_fit, code_fits_of, digits_bits, no_code, is_code, code_at}
+use Rattle.elements.specs.Arguments.{digit, digits_fit, code_fits_of, digits_bits, code_at}
 use Rattle.elements.proofs.Standing.{Stands, stands_join, stands_split, stands_as, stands_nothing}
 use Rattle.elements.proofs.Whole.{ranged, whole_reads, whole_stands}
-use Rattle.elements.proofs.Steps.{never, onto_is}
+use Rattle.elements.proofs.Steps.{then_is}
+use Rattle.std.specs.Prelude.{Ok}
 
 -- a digit, and those after it
-digit_reads : (l : List ℕ) (at next d : ℕ) (ds : List ℕ) (k : ℕ → ℕ → CodeRead) (o : CodeRead)
+digit_reads : (l : List ℕ) (at next d : ℕ) (ds : List ℕ) (k : ℕ → ℕ → Reading (List ℕ)) (o : Reading (List ℕ))
     → Stands l at (digits_fit (d ∷ ds)) (digits_bits (d ∷ ds)) next
     → ((m : ℕ) → Stands l m (digits_fit ds) (digits_bits ds) next → k d m ≡ o) → digit l at k ≡ o
 unfolding digits_fit digits_bits
@@ -27,12 +24,10 @@ digit_reads l at next d ds k o s go =
     let p = stands_split l at next _ _ (whole_bits 0 7 d) _ s in
     rw (whole_reads l at 0 7 d _ (ranged 0 7 tt tt) p.0) (go _ p.1)
 
-digit_stands : {R : Type 0} (l : List ℕ) (at : ℕ) (k : ℕ → ℕ → CodeRead) (ds : List ℕ) (next : ℕ) → Bits l → ((d m : ℕ) → Stands l at (whole_fits 0 7 d) (whole_bits 0 7 d) m → k d m ≡ is_code next ds → R) → digit l at k ≡ is_code next ds → R
+digit_stands : {R : Type 0} (l : List ℕ) (at : ℕ) (k : ℕ → ℕ → Reading (List ℕ)) (ds : List ℕ) (next : ℕ) → Bits l → ((d m : ℕ) → Stands l at (whole_fits 0 7 d) (whole_bits 0 7 d) m → k d m ≡ Ok (ds, next) → R) → digit l at k ≡ Ok (ds, next) → R
 digit_stands l at k ds next b go e =
-    onto_is no_code (whole_number l at 0 7) k (is_code next ds)
-    (λ (d m : ℕ) (p : whole_number l at 0 7 ≡ field.Value d m) (q : k d m ≡ is_code next ds). go d m (whole_stands l at 0 7 d m b p) q)
-    (λ (z : Refusal) (f : no_code z ≡ is_code next ds). let g : step.Refused z ≡ step.Next next = ap
-    (λ (c : CodeRead). c.step) f in never (cc))
+    then_is (whole_number l at 0 7) k (ds, next)
+    (λ (d m : ℕ) (p : whole_number l at 0 7 ≡ Ok (d, m)) (q : k d m ≡ Ok (ds, next)). go d m (whole_stands l at 0 7 d m b p) q)
     e
 
 -- after the last digit
@@ -52,7 +47,7 @@ more_stands l at m next d ds s t = stands_join l at m next _ _ _ _ s t
 
 pub code_reads : (l : List ℕ) (at next a b c d : ℕ)
     → Stands l at (digits_fit (a ∷ b ∷ c ∷ d ∷ [])) (digits_bits (a ∷ b ∷ c ∷ d ∷ [])) next
-    → code_at l at ≡ is_code next (a ∷ b ∷ c ∷ d ∷ [])
+    → code_at l at ≡ Ok (a ∷ b ∷ c ∷ d ∷ [], next)
 unfolding code_at
 code_reads l at next a b c d s =
     digit_reads l at next a _ _ _ s
@@ -66,7 +61,7 @@ of_four : (l : List ℕ) (at next a b c d : ℕ)
 unfolding code_fits_of
 of_four l at next a b c d s = stands_as l at next _ _ _ s.fits s
 
-pub code_stands : (l : List ℕ) (at next : ℕ) (ds : List ℕ) → Bits l → code_at l at ≡ is_code next ds
+pub code_stands : (l : List ℕ) (at next : ℕ) (ds : List ℕ) → Bits l → code_at l at ≡ Ok (ds, next)
     → Stands l at (code_fits_of ds) (digits_bits ds) next
 unfolding code_at
 code_stands l at next ds bits e =
@@ -74,10 +69,9 @@ code_stands l at next ds bits e =
     (λ (a p : ℕ) (sa : Stands l at (whole_fits 0 7 a) (whole_bits 0 7 a) p) (ea : _). digit_stands l p _ ds next bits
     (λ (b q : ℕ) (sb : Stands l p (whole_fits 0 7 b) (whole_bits 0 7 b) q) (eb : _). digit_stands l q _ ds next bits
     (λ (c r : ℕ) (sc : Stands l q (whole_fits 0 7 c) (whole_bits 0 7 c) r) (ec : _). digit_stands l r _ ds next bits
-    (λ (d n : ℕ) (sd : Stands l r (whole_fits 0 7 d) (whole_bits 0 7 d) n) (ed : is_code n (a ∷ b ∷ c ∷ d ∷ []) ≡ is_code next ds).
-    let g : step.Next n ≡ step.Next next = ap (λ (x : CodeRead). x.step) ed in
-    let i : n ≡ next = cc in
-    let j : a ∷ b ∷ c ∷ d ∷ [] ≡ ds = ap (λ (x : CodeRead). x.digits) ed in
+    (λ (d n : ℕ) (sd : Stands l r (whole_fits 0 7 d) (whole_bits 0 7 d) n) (ed : Ok (a ∷ b ∷ c ∷ d ∷ [], n) ≡ Ok (ds, next)).
+    let i : n ≡ next = ok_place ed in
+    let j : a ∷ b ∷ c ∷ d ∷ [] ≡ ds = ok_value ed in
     rw (← i, ← j) (of_four l at n a b c d (more_stands l at p n a _ sa
     (more_stands l p q n b _ sb (more_stands l q r n c _ sc (last_stands l r n d sd))))))
     ec)

@@ -1,17 +1,16 @@
 -- Each piece of an element fits where the element does, so that an element with room for its bits is written whole.
 -- Assumes nothing.
-use mathlib.Core.Path.{◌≡◌, refl, sym, ap, ◌∙◌}
+use mathlib.Core.Path.{◌≡◌, refl}
 use mathlib.Core.Bool.{Bool, true, false, cond, ◌&&◌}
 use mathlib.Core.List.{List, [], ◌∷◌, ◌++◌}
-use Prim.Native.Nat.{ℕ, suc, ◌+◌, ◌≤◌, ◌<◌}
+use Prim.Native.Nat.{ℕ, suc, ◌+◌, ◌≤◌}
 use native.Mathlib.Omega.{arith}
 use lib.ListN.{length}
 use lib.Dec.{eqb, leb, ltb}
 use borrow.Author.Tests.{le-leb, ltb-true, ne_eqb}
 use Rattle.words.proofs.Laws.{both_left, both_right}
 use Rattle.bits.specs.Bits.{bits_to}
-use Rattle.bits.specs.Put.{Left, left, put_bits}
-use Rattle.bits.specs.declared.Put.TheVariants.{Next}
+use Rattle.bits.specs.Put.{left, put_bits}
 use Rattle.fields.specs.Encodings.{whole_fits}
 use Rattle.kinds.specs.declared.Direction.{Direction}
 use Rattle.kinds.specs.declared.ArgumentKind.{ArgumentKind}
@@ -21,14 +20,15 @@ use Rattle.elements.specs.declared.values.Level.{Level}
 use Rattle.elements.specs.declared.values.Time.{Time}
 use Rattle.elements.specs.declared.values.Element.{Element}
 use Rattle.kinds.specs.Elements.{kind_of}
-use Rattle.elements.specs.Arguments.{flag, no_type, same?, lowest, highest, level_type_fits, level_fits, time_fits, digits_fit, code_fits_of, characters_fit, sized_fits, facility_fits, atis_fits}
-use Rattle.elements.specs.OneElement.{level_unused, time_unused, code_unused, levels_unused, plain, no_text_of, argument_fits, argument_bits, last_of, element_fits, element_bits}
-use Rattle.elements.specs.Writing.{Piece, whole, put_pieces, pieces_fit, pieces_bits, choice_piece, level_type_pieces, level_pieces, time_pieces, number_pieces, sized_pieces, facility_pieces, argument_pieces, index_piece, element_pieces}
+use Rattle.elements.specs.Arguments.{no_type, same?, level_type_fits, level_fits, time_fits, digits_fit, code_fits_of, characters_fit, sized_fits, facility_fits, atis_fits}
+use Rattle.elements.specs.OneElement.{level_unused, time_unused, code_unused, levels_unused, plain, no_text_of, argument_fits, last_of, element_fits, element_bits}
+use Rattle.elements.specs.Writing.{Piece, whole, put_pieces, pieces_fit, choice_piece, level_type_pieces, level_pieces, time_pieces, number_pieces, sized_pieces, facility_pieces, argument_pieces, index_piece, element_pieces}
 use Rattle.elements.proofs.Standing.{both_hold}
 use Rattle.elements.proofs.Steps.{never}
 use Rattle.elements.proofs.ReadBack.{parts}
 use Rattle.elements.proofs.Pieces.{pieces_left}
 use Rattle.elements.proofs.Written.{element_bits_is}
+use Rattle.std.specs.Prelude.{Some}
 
 pub fit_append : (xs ys : List Piece) → pieces_fit xs ≡ true → pieces_fit ys ≡ true → pieces_fit (xs ++ ys) ≡ true
 unfolding pieces_fit
@@ -134,6 +134,6 @@ element_fit d e t p =
 -- an element of its type, with room for its bits, is written whole
 pub element_written : (d : Direction) (e : Element) (t s : List ℕ) (end at : ℕ) → element_fits d e t ≡ true
     → at + length (element_bits d e t) ≤ length (bits_to s end)
-    → put_pieces s end at (element_pieces d e t) ≡ left (Next (at + length (element_bits d e t))) (put_bits s at (element_bits d e t))
+    → put_pieces s end at (element_pieces d e t) ≡ left (Some (at + length (element_bits d e t))) (put_bits s at (element_bits d e t))
 element_written d e t s end at p h = rw (element_bits_is d e t) at
     (pieces_left (element_pieces d e t) s end at (element_fit d e t p) (rw (element_bits_is d e t) h))

@@ -9,24 +9,22 @@ use native.Mathlib.Omega.{arith}
 use lib.ListN.{length, get_or, take, drop, length-take, length-drop, take-append-drop}
 use lib.Seq.{take_all, take-suc, drop-drop}
 use lib.Dec.{leb, ltb}
-use borrow.Author.Tests.{le-leb, lt-leb, lt-ltb, ltb-true, leb-true}
+use borrow.Author.Tests.{le-leb, lt-leb, lt-ltb, ltb-true}
 use Rattle.words.proofs.Laws.{both_left, both_right}
-use Rattle.bits.specs.Bits.{bits_n, bits_to}
+use Rattle.bits.specs.Bits.{bits_n}
 use Rattle.bits.specs.Put.{Left, left, put_number, put_if, put_bits}
-use Rattle.bits.specs.declared.Put.{Put}
-use Rattle.bits.specs.declared.Put.TheVariants.{Next, Full}
 use Rattle.bits.proofs.Bytes.{length_to}
 use Rattle.bits.proofs.Numbers.{bits_n_split, bits_n_high, bits_n_zero}
 use Rattle.bits.proofs.Putting.{put_fits}
-use Rattle.fields.specs.Encodings.{whole_fits}
 use Rattle.elements.specs.Arguments.{characters_fit, characters_bits}
 use Rattle.elements.specs.Measuring.{all_most}
-use Rattle.elements.specs.Writing.{Piece, put_pieces, pieces_fit, pieces_bits, whole, number_pieces}
+use Rattle.elements.specs.Writing.{put_pieces, pieces_fit, pieces_bits, number_pieces}
 use Rattle.elements.proofs.Texts.{length_characters_bits}
 use Rattle.elements.proofs.Written.{characters_bits_is}
 use Rattle.elements.proofs.Standing.{both_hold}
 use Rattle.elements.proofs.Measured.{characters_most_is}
 use Rattle.elements.proofs.Pieces.{pieces_left, pieces_next}
+use Rattle.std.specs.Prelude.{Option, Some}
 
 -- ---- the number of their bits
 
@@ -58,13 +56,6 @@ gather_turn xs i v c h e k inv =
     let t : take (i + 1) xs ≡ take i xs ++ (c ∷ []) = rw (add-one, e) (take-suc xs i 0 h) in
     rw (n, bits_n_split (7 * i) 7 (v * 128 + c), d, bits_n_high 7 v c, inv, t, characters_append, one_character)
 
-pub gather_done : (xs : List ℕ) (i v : ℕ) → i ≤ length xs → length xs ≤ i → bits_n (7 * i) v ≡ characters_bits (take i xs)
-    → v < 2 ^ (7 * i) → (bits_n (7 * length xs) v ≡ characters_bits xs) × (v < 2 ^ (7 * length xs))
-gather_done xs i v h g e l =
-    let n : i ≡ length xs = omega arith in
-    let t : take i xs ≡ xs = take_all i xs g in
-    (rw (← n) (rw t at e), rw (← n) l)
-
 -- ---- whether they have room
 
 pub room_is : (n m : ℕ) (xs : List ℕ) (r : Bool) → leb n m ≡ true → r ≡ all_most 127 xs → r ≡ (leb n m && characters_fit xs)
@@ -88,7 +79,7 @@ pieces_fit_is (x ∷ xs) f =
 -- characters that have room
 pub characters_left : (s : List ℕ) (e at : ℕ) (xs : List ℕ) → characters_fit xs ≡ true
     → at + 7 * length xs ≤ min e (8 * length s)
-    → put_pieces s e at (number_pieces 127 xs) ≡ left (Next (at + 7 * length xs)) (put_bits s at (characters_bits xs))
+    → put_pieces s e at (number_pieces 127 xs) ≡ left (Some (at + 7 * length xs)) (put_bits s at (characters_bits xs))
 characters_left s e at xs f r =
     let y : pieces_bits (number_pieces 127 xs) ≡ characters_bits xs = characters_bits_is xs in
     let k = length_characters_bits xs in
@@ -97,7 +88,7 @@ characters_left s e at xs f r =
 -- the number of their bits, put
 pub few_put : (s : List ℕ) (e at v : ℕ) (xs : List ℕ) → length xs ≤ 8 → at + 7 * length xs ≤ min e (8 * length s)
     → bits_n (7 * length xs) v ≡ characters_bits xs → v < 2 ^ (7 * length xs)
-    → put_number s e at (7 * length xs) v ≡ left (Next (at + 7 * length xs)) (put_bits s at (characters_bits xs))
+    → put_number s e at (7 * length xs) v ≡ left (Some (at + 7 * length xs)) (put_bits s at (characters_bits xs))
 unfolding put_number put_if
 few_put s e at v xs m r b l =
     let k = length_characters_bits xs in
@@ -132,12 +123,12 @@ in_parts hi i k xs =
     let d : drop k (drop i xs) ≡ drop (i + k) xs = rw drop-drop in
     ap (number_pieces hi) (sym (take-append-drop k (drop i xs))) ∙ rw (numbers_append, d)
 
-module _ (s t : List ℕ) (e p i k n v : ℕ) (xs : List ℕ) (a : Put) (f : characters_fit xs ≡ true) (w : i + k ≤ length xs) (m : k ≤ 8) (r : p + 7 * k ≤ min e (8 * length s))
+module _ (s t : List ℕ) (e p i k n v : ℕ) (xs : List ℕ) (a : Option ℕ) (f : characters_fit xs ≡ true) (w : i + k ≤ length xs) (m : k ≤ 8) (r : p + 7 * k ≤ min e (8 * length s))
     (g : (bits_n (7 * length (take k (drop i xs))) v ≡ characters_bits (take k (drop i xs))) × (v < 2 ^ (7 * length (take k (drop i xs))))) (q : n ≡ 7 * k) (h : left a t ≡ put_number s e p n v) where
   many : length (take k (drop i xs)) ≡ k
   many = omega (arith, length-take k (drop i xs), length-drop i xs)
 
-  part : left a t ≡ left (Next (p + 7 * length (take k (drop i xs)))) (put_bits s p (characters_bits (take k (drop i xs))))
+  part : left a t ≡ left (Some (p + 7 * length (take k (drop i xs)))) (put_bits s p (characters_bits (take k (drop i xs))))
   part =
       let c = many in
       let o : n ≡ 7 * length (take k (drop i xs)) = omega arith in
@@ -149,7 +140,7 @@ module _ (s t : List ℕ) (e p i k n v : ℕ) (xs : List ℕ) (a : Put) (f : cha
   pub part_next : (j o : ℕ) → i + k ≡ j → p + 7 * k ≡ o
       → put_pieces t e o (number_pieces 127 (drop j xs)) ≡ put_pieces s e p (number_pieces 127 (drop i xs))
   part_next j o x y =
-      let u : a ≡ Next (p + 7 * length (take k (drop i xs))) = ap (λ (l : Left). l.answer) part in
+      let u : a ≡ Some (p + 7 * length (take k (drop i xs))) = ap (λ (l : Left). l.answer) part in
       let l = put_pieces t e (p + 7 * k) (number_pieces 127 (drop (i + k) xs)) in
       rw (← x, ← y) (pieces_next (number_pieces 127 (take k (drop i xs))) (number_pieces 127 (drop (i + k) xs)) s t
       l.bytes e p (p + 7 * k) a l.answer part_put (rw many at u) refl ∙ ap (put_pieces s e p)

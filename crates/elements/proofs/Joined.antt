@@ -14,7 +14,6 @@ use borrow.Author.Tests.{le-leb, leb-true}
 use Rattle.words.proofs.Laws.{both_left, both_right}
 use Rattle.bits.specs.Bits.{bits_n, bits_to, num_of}
 use Rattle.bits.specs.Put.{left, put_number}
-use Rattle.bits.specs.declared.Put.{Put}
 use Rattle.bits.proofs.Numbers.{Bits, bits_n_zero, length_bits_n, num_append, num_bits_n, num_lt, bits_n_num, bits_bits_n}
 use Rattle.bits.proofs.Joining.{bits_n_join}
 use Rattle.bits.proofs.Bytes.{bits_append}
@@ -42,10 +41,11 @@ use Rattle.elements.proofs.Measured.{widest, length_single, level_type_most}
 use Rattle.elements.proofs.Pieces.{pieces_left}
 use Rattle.elements.proofs.Whole.{length_whole, whole_above, whole_below}
 use Rattle.elements.proofs.Written.{level_bits_is, time_bits_is, code_bits}
+use Rattle.std.specs.Prelude.{Option}
 
 -- ---- any pieces
 
-pub one_put : (xs : List Piece) (s z : List ℕ) (e at n v : ℕ) (a : Put) → pieces_fit xs ≡ true → pieces_bits xs ≡ bits_n n v
+pub one_put : (xs : List Piece) (s z : List ℕ) (e at n v : ℕ) (a : Option ℕ) → pieces_fit xs ≡ true → pieces_bits xs ≡ bits_n n v
     → v < 2 ^ n → n ≤ 64 → Within s e at n → left a z ≡ put_number s e at n v → left a z ≡ put_pieces s e at xs
 one_put xs s z e at n v a f q l m w h =
     let bs : List ℕ = pieces_bits xs in
@@ -53,7 +53,7 @@ one_put xs s z e at n v a f q l m w h =
     let k : at + length bs ≤ length (bits_to s e) = rw c at (leb-true (at + n) (length (bits_to s e)) w.test) in
     h ∙ as_number s e at n v true bs m l refl q ∙ put_if_yes true s e at bs refl ∙ put_fits s e at bs k ∙ sym (pieces_left xs s e at f k)
 
-pub joined_put : (xs : List Piece) (s z : List ℕ) (e at n v : ℕ) (a : Put) → pieces_fit xs ≡ true → Bits (pieces_bits xs)
+pub joined_put : (xs : List Piece) (s z : List ℕ) (e at n v : ℕ) (a : Option ℕ) → pieces_fit xs ≡ true → Bits (pieces_bits xs)
     → n ≡ length (pieces_bits xs) → v ≡ num_of (pieces_bits xs) → n ≤ 64 → Within s e at n
     → left a z ≡ put_number s e at n v → left a z ≡ put_pieces s e at xs
 joined_put xs s z e at n v a f b pn pv m w h =
@@ -289,7 +289,7 @@ module _ (d : Direction) (k : ArgumentKind) (e : Element) (t : List ℕ) (last w
       let b : 2 ^ n ≤ 2 ^ 18 = pow_mono {i = n} {j = 18} o.few in
       rw not_cut (omega (arith, shifted_small, b, o.small))
 
-  pub element_put : (s z : List ℕ) (end at : ℕ) (a : Put) → Within s end at (1 + w + n)
+  pub element_put : (s z : List ℕ) (end at : ℕ) (a : Option ℕ) → Within s end at (1 + w + n)
       → left a z ≡ put_number s end at (1 + w + n) (e.number * 2 ^ n % 2 ^ 64 + v)
       → left a z ≡ put_pieces s end at (element_pieces_as d k e t)
   element_put s z end at a h q =

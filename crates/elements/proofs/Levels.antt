@@ -3,29 +3,24 @@
 use mathlib.Core.Path.{◌≡◌, refl, sym, ◌∙◌}
 use mathlib.Core.Bool.{Bool, true, false, cond, ◌&&◌}
 use mathlib.Core.List.{List, [], ◌∷◌, ◌++◌}
-use Prim.Native.Nat.{ℕ, zero, suc, ◌+◌, ◌<◌, ◌≤◌}
+use Prim.Native.Nat.{ℕ, zero, suc, ◌<◌, ◌≤◌}
 use native.Mathlib.Omega.{arith}
 use native.Mathlib.Nat.{add-zero}
 use lib.ListN.{get_or-eq_default}
 use lib.Dec.{eqb}
 use borrow.Author.Tests.{eqb-true, eqb-false}
-use Rattle.words.proofs.Laws.{both_left, both_right}
+use Rattle.words.proofs.Laws.{both_left, both_right, ok_place, ok_value}
 use Rattle.bits.proofs.Numbers.{Bits}
-use Rattle.fields.specs.Fields.{whole_number}
+use Rattle.fields.specs.Fields.{whole_number, then}
 use Rattle.fields.specs.Encodings.{whole_bits, whole_fits}
-use Rattle.fields.specs.declared.Refusal.{Refusal}
-use Rattle.fields.specs.declared.Field.TheVariants as field
 use Rattle.elements.specs.declared.values.LevelType.{LevelType}
-use Rattle.elements.specs.declared.values.LevelTypeRead.{LevelTypeRead}
-use Rattle.elements.specs.declared.values.LevelTypeRead.TheVariants as type
 use Rattle.elements.specs.declared.values.Level.{Level}
-use Rattle.elements.specs.declared.values.LevelRead.{LevelRead}
-use Rattle.elements.specs.declared.values.LevelRead.TheVariants as level
-use Rattle.elements.specs.Arguments.{lowest, highest, level_type_fits, level_type_bits, level_type_at, type_refusal, onto_type, second_of, flag, no_type, same?, level_fits, level_bits, level_at}
+use Rattle.elements.specs.Arguments.{lowest, highest, level_type_fits, level_type_bits, level_type_at, second_of, flag, no_type, same?, level_fits, level_bits, level_at}
 use Rattle.elements.proofs.Standing.{Stands, stands_join, stands_split, stands_as, stands_nothing}
 use Rattle.elements.proofs.Whole.{Ranged, ranged, whole_reads, whole_stands, whole_below}
-use Rattle.elements.proofs.Pairs.{pair_reads, pair_is}
-use Rattle.elements.proofs.Steps.{never, onto_is}
+use Rattle.elements.proofs.Pairs.{pair_reads, pair_stands}
+use Rattle.elements.proofs.Steps.{then_is}
+use Rattle.std.specs.Prelude.{Ok}
 
 -- every unit has a range
 pub in_range : (u : ℕ) → u ≤ 3 → Ranged (lowest u) (highest u)
@@ -64,42 +59,24 @@ past_highest u h = sym (get_or-eq_default (7060 ∷ 25030 ∷ 700 ∷ 2500 ∷ [
 units : Ranged 0 3
 units = ranged _ _ tt tt
 
-made : ℕ → ℕ → ℕ → LevelTypeRead
-made u v next = type.Got (record { unit = u; number = v }) next
+made : ℕ → ℕ → LevelType
+made u v = record { unit = u; number = v }
 
 pub level_type_reads : (l : List ℕ) (at next : ℕ) (x : LevelType) → Stands l at (level_type_fits x) (level_type_bits x) next
-    → level_type_at l at ≡ type.Got x next
+    → level_type_at l at ≡ Ok (x, next)
 unfolding level_type_fits level_type_bits level_type_at made
-level_type_reads l at next x s = pair_reads type.Refused made 0 3 lowest highest units in_range l at x.unit x.number next s
+level_type_reads l at next x s = pair_reads made 0 3 lowest highest units in_range l at x.unit x.number next s
 
-pub level_type_stands : (l : List ℕ) (at next : ℕ) (x : LevelType) → Bits l → level_type_at l at ≡ type.Got x next
+pub level_type_stands : (l : List ℕ) (at next : ℕ) (x : LevelType) → Bits l → level_type_at l at ≡ Ok (x, next)
     → Stands l at (level_type_fits x) (level_type_bits x) next
 unfolding level_type_fits level_type_bits level_type_at made
 level_type_stands l at next x b e =
-    pair_is type.Refused made 0 3 lowest highest units in_range l at (type.Got x next) b
-    (λ (u v n : ℕ) (s : Stands l at (whole_fits 0 3 u && whole_fits (lowest u) (highest u) v) (whole_bits 0 3 u ++ whole_bits (lowest u) (highest u) v) n) (g : type.Got (record { unit = u; number = v }) n ≡ type.Got x next).
-    let i : u ≡ x.unit = cc in
-    let j : v ≡ x.number = cc in
-    let k : n ≡ next = cc in
-    rw (← i, ← j, ← k) s)
-    (λ (z : Refusal) (f : type.Refused z ≡ type.Got x next). never (cc))
+    pair_stands made 0 3 lowest highest units in_range l at x next b
+    (λ (u v : ℕ) (s : Stands l at (whole_fits 0 3 u && whole_fits (lowest u) (highest u) v) (whole_bits 0 3 u ++ whole_bits (lowest u) (highest u) v) next) (g : made u v ≡ x).
+    rw (← g) s)
     e
 
 -- ---- a level: one type, or two for a block
-
--- what comes of a type comes by one of the two ways out of it
-type_is : {R : Type 0} (f : LevelTypeRead) (k : LevelType → ℕ → LevelRead) (o : LevelRead) → ((x : LevelType) (n : ℕ) → f ≡ type.Got x n → k x n ≡ o → R) → ((r : Refusal) → level.Refused r ≡ o → R) → onto_type f k ≡ o → R
-type_is (type.Got x n) k o go bad e = go x n refl e
-type_is (type.Refused r) k o go bad e = bad r e
-
--- as the code takes them
-pub type_handed : (f g : LevelTypeRead) (r x : Refusal) (k : LevelType → ℕ → LevelRead) → f ≡ g → f ≡ type.Refused r
-    → x ≡ type_refusal f → level.Refused x ≡ onto_type g k
-type_handed f g r x k p q e = rw (← p, e, q)
-
-pub type_went : (f g : LevelTypeRead) (x : LevelType) (n : ℕ) (k : LevelType → ℕ → LevelRead) (o : LevelRead) → f ≡ g
-    → f ≡ type.Got x n → o ≡ k x n → o ≡ onto_type g k
-type_went f g x n k o p q e = rw (← p, q, e)
 
 pub same_is : (x y : LevelType) → same? x y ≡ true → x ≡ y
 same_is x y e =
@@ -114,7 +91,7 @@ same_is x y e =
 reads_level : (l : List ℕ) (at next : ℕ) (block : Bool) (x y : LevelType)
     → Stands l at (true && level_type_fits x && cond block (level_type_fits y) (same? y no_type))
     (whole_bits 0 1 (flag block) ++ level_type_bits x ++ cond block (level_type_bits y) []) next
-    → level_at l at ≡ level.Got (record { block = block; first = x; second = y }) next
+    → level_at l at ≡ Ok (record { block = block; first = x; second = y }, next)
 unfolding level_at
 reads_level l at next true x y s =
     let p = stands_split l at next _ _ (whole_bits 0 1 1 ++ level_type_bits x) (level_type_bits y) s in
@@ -136,7 +113,7 @@ reads_level l at next false x y s =
       same_is y no_type p.1.fits,
     )
 
-pub level_reads : (l : List ℕ) (at next : ℕ) (x : Level) → Stands l at (level_fits x) (level_bits x) next → level_at l at ≡ level.Got x next
+pub level_reads : (l : List ℕ) (at next : ℕ) (x : Level) → Stands l at (level_fits x) (level_bits x) next → level_at l at ≡ Ok (x, next)
 unfolding level_fits level_bits
 level_reads l at next x s = reads_level l at next x.block x.first x.second s
 
@@ -163,33 +140,30 @@ module _ (l : List ℕ) (at next : ℕ) (x : Level) (b : Bits l) where
 
   second_stands : (v m : ℕ) (f : LevelType) (n : ℕ) → Stands l at (whole_fits 0 1 v) (whole_bits 0 1 v) m
       → Stands l m (level_type_fits f) (level_type_bits f) n → (t : Bool) → eqb v 0 ≡ t
-      → second_of l v f n ≡ level.Got x next → Goal
+      → second_of l v f n ≡ Ok (x, next) → Goal
   unfolding Goal
   second_stands v m f n p q true h e =
-      let g : level.Got (record { block = false; first = f; second = no_type }) n ≡ level.Got x next = rw h at e in
-      let i : ◌≡◌ {A = Level} (record { block = false; first = f; second = no_type }) x = cc in
-      let j : n ≡ next = cc in
+      let g : Ok (record { block = false; first = f; second = no_type }, n) ≡ Ok (x, next) = rw h at e in
+      let i : ◌≡◌ {A = Level} (record { block = false; first = f; second = no_type }) x = ok_value g in
+      let j : n ≡ next = ok_place g in
       rw (← i, ← j) (single_stands l at m n v f (eqb-true v 0 h) p q)
   second_stands v m f n p q false h e =
       let w : v ≡ 1 = let a = whole_below 0 1 v p.fits in let z = eqb-false v 0 h in omega arith in
-      type_is (level_type_at l n) (λ (y : LevelType) (last : ℕ). level.Got (record { block = true; first = f; second = y }) last) (level.Got x next)
-      (λ (y : LevelType) (k : ℕ) (r : level_type_at l n ≡ type.Got y k) (g : level.Got (record { block = true; first = f; second = y }) k ≡ level.Got x next).
-      let i : ◌≡◌ {A = Level} (record { block = true; first = f; second = y }) x = cc in
-      let j : k ≡ next = cc in
+      then_is (level_type_at l n) (λ (y : LevelType) (last : ℕ). Ok (record { block = true; first = f; second = y }, last)) (x, next)
+      (λ (y : LevelType) (k : ℕ) (r : level_type_at l n ≡ Ok (y, k)) (g : Ok (record { block = true; first = f; second = y }, k) ≡ Ok (x, next)).
+      let i : ◌≡◌ {A = Level} (record { block = true; first = f; second = y }) x = ok_value g in
+      let j : k ≡ next = ok_place g in
       rw (← i, ← j) (block_stands l at m n k v f y w p q (level_type_stands l n k y b r)))
-      (λ (z : Refusal) (g : level.Refused z ≡ level.Got x next). never (cc))
       (rw h at e)
 
-pub level_stands : (l : List ℕ) (at next : ℕ) (x : Level) → Bits l → level_at l at ≡ level.Got x next
+pub level_stands : (l : List ℕ) (at next : ℕ) (x : Level) → Bits l → level_at l at ≡ Ok (x, next)
     → Stands l at (level_fits x) (level_bits x) next
 unfolding level_at Goal
 level_stands l at next x b e =
-    onto_is level.Refused (whole_number l at 0 1) (λ (v m : ℕ). onto_type (level_type_at l m) (second_of l v)) (level.Got x next)
-    (λ (v m : ℕ) (p : whole_number l at 0 1 ≡ field.Value v m) (q : onto_type (level_type_at l m) (second_of l v) ≡ level.Got x next).
-    type_is (level_type_at l m) (second_of l v) (level.Got x next)
-    (λ (f : LevelType) (n : ℕ) (r : level_type_at l m ≡ type.Got f n) (g : second_of l v f n ≡ level.Got x next).
+    then_is (whole_number l at 0 1) (λ (v m : ℕ). then (level_type_at l m) (second_of l v)) (x, next)
+    (λ (v m : ℕ) (p : whole_number l at 0 1 ≡ Ok (v, m)) (q : then (level_type_at l m) (second_of l v) ≡ Ok (x, next)).
+    then_is (level_type_at l m) (second_of l v) (x, next)
+    (λ (f : LevelType) (n : ℕ) (r : level_type_at l m ≡ Ok (f, n)) (g : second_of l v f n ≡ Ok (x, next)).
     second_stands l at next x b v m f n (whole_stands l at 0 1 v m b p) (level_type_stands l m n f b r) (eqb v 0) refl g)
-    (λ (z : Refusal) (g : level.Refused z ≡ level.Got x next). never (cc))
     q)
-    (λ (z : Refusal) (g : level.Refused z ≡ level.Got x next). never (cc))
     e

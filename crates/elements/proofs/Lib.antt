@@ -6,7 +6,6 @@ pub mod Levels
 pub mod Times
 pub mod Codes
 pub mod Texts
-pub mod Ways
 pub mod Indices
 pub mod Unused
 pub mod ReadBack

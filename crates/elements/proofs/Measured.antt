@@ -1,7 +1,7 @@
 -- Measuring: the tests of a value, and the lengths of its bits.
 -- Assumes nothing.
 use mathlib.Core.Path.{◌≡◌, refl, sym, ◌∙◌}
-use mathlib.Core.Bool.{Bool, true, false, cond, not, ◌&&◌}
+use mathlib.Core.Bool.{Bool, true, false, ◌&&◌}
 use mathlib.Core.List.{List, [], ◌∷◌, ◌++◌}
 use Prim.Native.Nat.{ℕ, zero, suc, ◌+◌, ◌-◌, ◌*◌, ◌<◌, ◌≤◌, max}
 use native.Mathlib.Numerals.{add-one}
@@ -21,12 +21,10 @@ use Rattle.elements.specs.declared.values.LevelType.{LevelType}
 use Rattle.elements.specs.declared.values.Level.{Level}
 use Rattle.elements.specs.declared.values.Time.{Time}
 use Rattle.elements.specs.declared.values.Element.{Element}
-use Rattle.elements.specs.declared.measuring.Uses.{Uses}
-use Rattle.elements.specs.declared.values.Size.TheVariants as size
 use Rattle.kinds.specs.Elements.{kind_of}
 use Rattle.elements.specs.Arguments.{flag, lowest, highest, level_type_bits, level_fits, level_bits, time_fits, time_bits, digits_fit, code_fits_of, digits_bits, characters_fit, sized_fits, sized_bits, facility_fits, facility_bits, atis_fits}
 use Rattle.elements.specs.OneElement.{zeros, code_unused, level_unused, time_unused, levels_unused, plain, no_text_of, argument_fits, argument_bits, last_of, element_fits, element_bits, element_fits_as, element_bits_as}
-use Rattle.elements.specs.Measuring.{all_most, type_fits_use, level_fits_use, time_fits_use, code_fits_use, text_fits_kind, uses_of, largest_of}
+use Rattle.elements.specs.Measuring.{all_most, level_fits_use, time_fits_use, code_fits_use, text_fits_kind, uses_of, largest_of}
 use Rattle.words.proofs.Laws.{both_left, both_right}
 use Rattle.elements.proofs.Steps.{never}
 use Rattle.elements.proofs.Whole.{length_whole, whole_below}
@@ -34,20 +32,6 @@ use Rattle.elements.proofs.Indices.{length_index}
 use Rattle.elements.proofs.Texts.{length_characters_bits}
 use Rattle.elements.proofs.ReadBack.{parts}
 use Rattle.elements.proofs.Pieces.{drop_all}
-
--- ---- tests
-
-pub both_as : (r a b x y : Bool) → r ≡ a && b → a ≡ x → b ≡ y → r ≡ x && y
-both_as r a b x y p q s = rw (p, q, s)
-
--- the same range, looked up
-pub fits_as : (r : Bool) (lo hi lo' hi' v : ℕ) → r ≡ whole_fits lo hi v → lo ≡ lo' → hi ≡ hi' → r ≡ whole_fits lo' hi' v
-fits_as r lo hi lo' hi' v e p q = rw (← p, ← q) e
-
-pub element_fits_by : (d : Direction) (e : Element) (t : List ℕ) (r a f g : Bool) (last : ℕ) (k : ArgumentKind)
-    → r ≡ a && g → a ≡ f && eqb e.characters (length t) → f ≡ whole_fits 0 last e.number → g ≡ argument_fits k e t
-    → last ≡ last_of d → r ≡ element_fits_as d k e t
-element_fits_by d e t r a f g last k h i j m p = rw (h, i, j, m, p)
 
 -- ---- several numbers: the loop has seen the first i of them
 
@@ -124,11 +108,6 @@ module _ (r : Bool) (xs : List ℕ) (n : length xs ≡ 4) where
   unfolding code_fits_use code_unused
   code_unused_is e = rw (eq-eqb (length xs) 4 n) (e ∙ zeros_most xs)
 
-pub sized_fits_by : (r a b : Bool) (least most n : ℕ) (xs : List ℕ) → r ≡ a && b → a ≡ whole_fits least most n
-    → n ≡ length xs → b ≡ all_most 127 xs → r ≡ sized_fits least most xs
-unfolding sized_fits
-sized_fits_by r a b least most n xs p q m s = rw (p, q, m, s, characters_most_is xs)
-
 pub no_facility_fits : (xs : List ℕ) → length xs ≡ 0 → true ≡ facility_fits xs
 unfolding facility_fits
 no_facility_fits [] h = refl
@@ -143,17 +122,9 @@ pub atis_fits_by : (r b : Bool) (xs : List ℕ) → r ≡ eqb (length xs) 1 && b
 unfolding atis_fits
 atis_fits_by r b xs p s = rw (p, s, characters_most_is xs)
 
--- ---- levels
-
-pub level_used : (r p q : Bool) (x : Level) → r ≡ p && q → p ≡ type_fits_use true x.first
-    → q ≡ type_fits_use x.block x.second → r ≡ level_fits_use true x
-unfolding level_fits_use level_fits type_fits_use
-level_used r p q x h i j = rw (h, i, j)
-
-pub level_zero : (r a p q : Bool) (x : Level) → r ≡ a && q → a ≡ not x.block && p → p ≡ type_fits_use false x.first
-    → q ≡ type_fits_use false x.second → r ≡ level_fits_use false x
-unfolding level_fits_use level_unused type_fits_use
-level_zero r a p q x h i j k = rw (h, i, j, k)
+pub no_atis_fits : (xs : List ℕ) → (length xs ≡ 1 → ⊥) → eqb (length xs) 1 ≡ atis_fits xs
+unfolding atis_fits
+no_atis_fits xs h = rw (ne_eqb (length xs) 1 h)
 
 -- ---- an argument, part by part
 
@@ -161,7 +132,7 @@ never_both : (a : Bool) → a && false ≡ false
 never_both true = refl
 never_both false = refl
 
-argument_parts : (k : ArgumentKind) (e : Element) (t : List ℕ)
+pub argument_parts : (k : ArgumentKind) (e : Element) (t : List ℕ)
     → level_fits_use (leb 1 (uses_of k).levels) e.level && level_fits_use (leb 2 (uses_of k).levels) e.other &&
     time_fits_use (uses_of k).time e.time && code_fits_use (uses_of k).code e.code && text_fits_kind k t ≡
     argument_fits k e t
@@ -177,12 +148,6 @@ argument_parts kind.FreeText e t = refl
 argument_parts kind.Facility e t = refl
 argument_parts kind.FacilityDesignation e t = refl
 argument_parts kind.AtisCode e t = refl
-
-pub argument_fits_by : (k : ArgumentKind) (e : Element) (t : List ℕ) (u : Uses) (r a b c p q m n o : Bool) → r ≡ c && o
-    → c ≡ b && n → b ≡ a && m → a ≡ p && q → p ≡ level_fits_use (leb 1 u.levels) e.level
-    → q ≡ level_fits_use (leb 2 u.levels) e.other → m ≡ time_fits_use u.time e.time
-    → n ≡ code_fits_use u.code e.code → o ≡ text_fits_kind k t → u ≡ uses_of k → r ≡ argument_fits k e t
-argument_fits_by k e t u r a b c p q m n o h₁ h₂ h₃ h₄ h₅ h₆ h₇ h₈ h₉ h = rw (h₁, h₂, h₃, h₄, h₅, h₆, h₇, h₈, h₉, h) (argument_parts k e t)
 
 -- ---- lengths
 
@@ -255,10 +220,6 @@ length_facility [] h = absurd (h refl)
 length_facility (c ∷ cs) h = rw (length-append, length_choice true)
 
 -- ---- as the code measures
-
-pub no_width : (lo hi : ℕ) → hi < lo → 0 ≡ width_of (hi - lo)
-unfolding digits_in
-no_width lo hi h = let z : hi - lo ≡ 0 = omega arith in rw z
 
 pub choice_width : width_of (1 - 0) ≡ 1
 unfolding digits_in
@@ -403,16 +364,10 @@ module _ (d : Direction) (k : ArgumentKind) (e : Element) (t : List ℕ) (p : el
   pub small_as : length (argument_bits k e t) ≤ 1800
   small_as = omega (arith, argument_largest k e t argument_as, largest_small k)
 
-module _ (d : Direction) (k : ArgumentKind) (e : Element) (t : List ℕ) (ok : Bool) (h : ok ≡ element_fits_as d k e t) where
-  pub measured : (w last n : ℕ) → ok ≡ true → w ≡ width_of (last - 0) → last ≡ last_of d → n ≡ length (argument_bits k e t)
-      → size.Bits (1 + w + n) ≡ cond (element_fits_as d k e t) (size.Bits (length (element_bits_as d k e t))) size.Shape
-  measured w last n p a b m =
-      let l : length (element_bits_as d k e t) ≡ 1 + width_of (last_of d - 0) + length (argument_bits k e t) = omega (
-        arith,
-        length-append (index_bits (last_of d) e.number) (argument_bits k e t),
-        length_index (last_of d) e.number,
-      ) in
-      rw (← h, p, l, ← m, ← b, ← a)
-
-  pub no_shape : ok ≡ false → size.Shape ≡ cond (element_fits_as d k e t) (size.Bits (length (element_bits_as d k e t))) size.Shape
-  no_shape p = rw (← h, p)
+pub length_element_as : (d : Direction) (k : ArgumentKind) (e : Element) (t : List ℕ)
+    → length (element_bits_as d k e t) ≡ 1 + width_of (last_of d - 0) + length (argument_bits k e t)
+length_element_as d k e t = omega (
+  arith,
+  length-append (index_bits (last_of d) e.number) (argument_bits k e t),
+  length_index (last_of d) e.number,
+)

@@ -10,23 +10,20 @@ use lib.ListN.{length}
 use borrow.Author.Tests.{le-leb}
 use Rattle.bits.specs.Bits.{bits_n, bits_to}
 use Rattle.bits.specs.Read.{read_bits}
-use Rattle.bits.specs.declared.Read.{Read}
-use Rattle.bits.specs.declared.Read.TheVariants.{Number}
 use Rattle.bits.proofs.Bytes.{bits_to_is}
 use Rattle.bits.proofs.Numbers.{length_bits_n}
 use Rattle.bits.proofs.Reading.{number_is, number_lt, number_stands}
 use Rattle.fields.specs.Fields.{digits_in, whole_number}
 use Rattle.fields.specs.Encodings.{whole_bits, whole_fits}
-use Rattle.fields.specs.declared.Field.{Field}
-use Rattle.fields.specs.declared.Field.TheVariants as field
 use Rattle.elements.specs.declared.values.LevelType.{LevelType}
-use Rattle.elements.specs.declared.values.LevelRead.TheVariants as level
-use Rattle.elements.specs.Arguments.{lowest, highest, no_type, level_type_fits, level_type_bits, level_at, digits_fit, digits_bits, is_code, code_at}
+use Rattle.elements.specs.Arguments.{lowest, highest, no_type, level_type_fits, level_type_bits, level_at, digits_fit, digits_bits, code_at}
 use Rattle.elements.proofs.Codes.{code_reads}
 use Rattle.elements.proofs.Joined.{four}
 use Rattle.elements.proofs.Levels.{highest_small, level_reads, single_stands}
 use Rattle.elements.proofs.Standing.{Stands, both_hold, stands_as, stands_join, stands_split}
 use Rattle.elements.proofs.Whole.{whole_stands, whole_most, whole_as}
+use Rattle.std.specs.Prelude.{Ok, Option, Some}
+use Rattle.fields.specs.Fields.{Reading}
 
 -- ---- a code
 
@@ -37,8 +34,8 @@ digits : (a b c d : ℕ) → a ≤ 7 → b ≤ 7 → c ≤ 7 → d ≤ 7 → dig
 unfolding digits_fit
 digits a b c d p q r t = rw (digit a p, digit b q, digit c r, digit d t)
 
-pub code_is : (s : List ℕ) (e at v next : ℕ) (r : Read) → r ≡ read_bits (bits_to s e) at 12 → r ≡ Number v next
-    → is_code next (v / 8 / 8 / 8 % 8 ∷ v / 8 / 8 % 8 ∷ v / 8 % 8 ∷ v % 8 ∷ []) ≡ code_at (bits_to s e) at
+pub code_is : (s : List ℕ) (e at v next : ℕ) (r : Option (ℕ × ℕ)) → r ≡ read_bits (bits_to s e) at 12 → r ≡ Some (v, next)
+    → Ok (v / 8 / 8 / 8 % 8 ∷ v / 8 / 8 % 8 ∷ v / 8 % 8 ∷ v % 8 ∷ [], next) ≡ code_at (bits_to s e) at
 code_is s e at v next r p q =
     let l : List ℕ = bits_to s e in
     let k = number_is l at 12 v next (sym p ∙ q) in
@@ -68,13 +65,13 @@ three (suc (suc (suc (suc u)))) h = absurd (omega arith)
 unit_fits : (u : ℕ) → u ≤ 3 → whole_fits 0 3 u ≡ true
 unit_fits u h = both_hold (leb 0 u) (leb u 3) (le-leb 0 u (omega arith)) (le-leb u 3 h)
 
-module _ (s : List ℕ) (e at u next v last low high : ℕ) (r : Read) (f : Field) (p : r ≡ read_bits (bits_to s e) at 3) (q : r ≡ Number u next) (h : u ≤ 3) (pl : low ≡ lowest u) (ph : high ≡ highest u) (pf : f ≡ whole_number (bits_to s e) next low high) (qf : f ≡ field.Value v last) where
+module _ (s : List ℕ) (e at u next v last low high : ℕ) (r : Option (ℕ × ℕ)) (f : Reading ℕ) (p : r ≡ read_bits (bits_to s e) at 3) (q : r ≡ Some (u, next)) (h : u ≤ 3) (pl : low ≡ lowest u) (ph : high ≡ highest u) (pf : f ≡ whole_number (bits_to s e) next low high) (qf : f ≡ Ok (v, last)) where
   pub amount_small : v < 65536
   amount_small =
       let m = whole_most (bits_to s e) next low high v last f pf qf in
       omega (arith, m, ph, highest_small u)
 
-  pub single_is : level.Got (record { block = false; first = record { unit = u; number = v }; second = no_type }) last ≡ level_at (bits_to s e) at
+  pub single_is : Ok (record { block = false; first = record { unit = u; number = v }; second = no_type }, last) ≡ level_at (bits_to s e) at
   unfolding level_type_fits level_type_bits
   single_is =
       let l : List ℕ = bits_to s e in

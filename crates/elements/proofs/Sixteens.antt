@@ -10,8 +10,6 @@ use lib.ListN.{length, set, take, drop, length-append, length-take, length-drop,
 use lib.Seq.{sets}
 use Rattle.bits.specs.Bits.{bits_n, bits_of}
 use Rattle.bits.specs.Put.{Left, left, put_bits, put_number}
-use Rattle.bits.specs.declared.Put.{Put}
-use Rattle.bits.specs.declared.Put.TheVariants.{Next}
 use Rattle.bits.proofs.Numbers.{Bits, bits_bits_n}
 use Rattle.bits.proofs.Bytes.{Bytes, bits_append}
 use Rattle.bits.proofs.Putting.{bits_put, bytes_put, length_put, same_bytes}
@@ -20,6 +18,7 @@ use Rattle.elements.specs.Writing.{put_pieces, number_pieces}
 use Rattle.elements.proofs.Texts.{length_characters_bits}
 use Rattle.elements.proofs.Pieces.{pieces_next}
 use Rattle.elements.proofs.Gathered.{characters_append, characters_left, few_put, fit_part, in_parts, the_rest}
+use Rattle.std.specs.Prelude.{Option, Some}
 
 -- ---- the later of two runs put first
 
@@ -73,7 +72,7 @@ characters_are_bits (c ∷ cs) = bits_append (bits_n 7 c) (characters_bits cs) (
 abbrev pub Gather : ℕ → List ℕ → Type 0
 Gather v xs = (bits_n (7 * length xs) v ≡ characters_bits xs) × (v < 2 ^ (7 * length xs))
 
-eight_put : (s z : List ℕ) (e at v : ℕ) (xs : List ℕ) (a : Put) → length xs ≡ 8 → at + 56 ≤ min e (8 * length s)
+eight_put : (s z : List ℕ) (e at v : ℕ) (xs : List ℕ) (a : Option ℕ) → length xs ≡ 8 → at + 56 ≤ min e (8 * length s)
     → Gather v xs → left a z ≡ put_number s e at 56 v → z ≡ put_bits s at (characters_bits xs)
 eight_put s z e at v xs a n r g h =
     let k : 56 ≡ 7 * length xs = omega arith in
@@ -82,7 +81,7 @@ eight_put s z e at v xs a n r g h =
 halves : (zs : List ℕ) → take 8 zs ++ take (length zs - 8) (drop 8 zs) ≡ zs
 halves zs = rw (the_rest zs 8) (take-append-drop 8 zs)
 
-pub sixteen_put : (s u z : List ℕ) (e at p v w : ℕ) (zs : List ℕ) (a b : Put) → Bytes s → length zs ≡ 16
+pub sixteen_put : (s u z : List ℕ) (e at p v w : ℕ) (zs : List ℕ) (a b : Option ℕ) → Bytes s → length zs ≡ 16
     → at + 112 ≤ min e (8 * length s) → Gather v (take 8 zs) → Gather w (take (length zs - 8) (drop 8 zs)) → p ≡ at + 56
     → left a u ≡ put_number s e p 56 w → left b z ≡ put_number u e at 56 v → z ≡ put_bits s at (characters_bits zs)
 sixteen_put s u z e at p v w zs a b bs many r g f q h k =
@@ -107,8 +106,8 @@ pub sixteen_next : (s t : List ℕ) (e p i k : ℕ) (xs : List ℕ) → characte
 sixteen_next s t e p i k xs f w r h j o x y =
     let many : length (take k (drop i xs)) ≡ k = omega (arith, length-take k (drop i xs), length-drop i xs) in
     let l = put_pieces t e (p + 7 * k) (number_pieces 127 (drop (i + k) xs)) in
-    let c : put_pieces s e p (number_pieces 127 (take k (drop i xs))) ≡ left (Next (p + 7 * k)) t = rw (many, ← h) at
+    let c : put_pieces s e p (number_pieces 127 (take k (drop i xs))) ≡ left (Some (p + 7 * k)) t = rw (many, ← h) at
     (characters_left s e p (take k (drop i xs)) (fit_part i k xs f) (omega arith)) in
     rw (← x, ← y) (pieces_next (number_pieces 127 (take k (drop i xs))) (number_pieces 127 (drop (i + k) xs)) s t
-    l.bytes e p (p + 7 * k) (Next (p + 7 * k)) l.answer (sym c) refl refl ∙ ap (put_pieces s e p)
+    l.bytes e p (p + 7 * k) (Some (p + 7 * k)) l.answer (sym c) refl refl ∙ ap (put_pieces s e p)
     (sym (in_parts 127 i k xs)))

@@ -10,10 +10,10 @@ use native.Mathlib.Nat.{add-zero}
 use lib.ListN.{length, length-append}
 use Rattle.bits.proofs.Numbers.{Bits}
 use Rattle.bits.proofs.Bytes.{Holds, holds_split, holds_join, holds_within}
-use Rattle.fields.specs.declared.Field.{Field}
-use Rattle.fields.specs.declared.Field.TheVariants as field
 use Rattle.fields.proofs.RoundTrip as trip
 use Rattle.words.proofs.Laws.{both_left, both_right}
+use Rattle.std.specs.Prelude.{Ok}
+use Rattle.fields.specs.Fields.{Reading}
 
 -- the bits bs of a value that its type has (ok) stand at a place of l, up to the next
 pub record Stands (l : List ℕ) (at : ℕ) (ok : Bool) (bs : List ℕ) (next : ℕ) : Type 0 where
@@ -63,9 +63,9 @@ as_field l at next ok bs p s = record { place = s.place; within = holds_within l
 pub of_field : (l : List ℕ) (at next : ℕ) (ok : Bool) (bs : List ℕ) → ok ≡ true → trip.Stands l at bs next → Stands l at ok bs next
 of_field l at next ok bs e s = record { fits = e; holds = s.holds; place = s.place }
 
-module _ {rd : List ℕ → ℕ → Field} {ok : ℕ → Bool} {bits : ℕ → List ℕ} (f : trip.RoundTrip rd ok bits) (l : List ℕ) (at v next : ℕ) where
-  pub field_reads : 0 < length (bits v) → Stands l at (ok v) (bits v) next → rd l at ≡ field.Value v next
+module _ {rd : List ℕ → ℕ → Reading ℕ} {ok : ℕ → Bool} {bits : ℕ → List ℕ} (f : trip.RoundTrip rd ok bits) (l : List ℕ) (at v next : ℕ) where
+  pub field_reads : 0 < length (bits v) → Stands l at (ok v) (bits v) next → rd l at ≡ Ok (v, next)
   field_reads p s = f.written_read l at v next s.fits (as_field l at next (ok v) (bits v) p s)
 
-  pub field_stands : Bits l → rd l at ≡ field.Value v next → Stands l at (ok v) (bits v) next
+  pub field_stands : Bits l → rd l at ≡ Ok (v, next) → Stands l at (ok v) (bits v) next
   field_stands b e = of_field l at next (ok v) (bits v) (f.read_fits l at v next b e) (f.read_written l at v next b e)

@@ -1,29 +1,30 @@
--- Going on from a field that was read: the two ways out of it, as the code takes them and as a law takes them apart.
+-- Going on from a reading: what came of it, as a law takes it apart.
 -- Assumes nothing.
 use mathlib.Core.Path.{◌≡◌, refl}
 use Prim.Native.Nat.{ℕ}
 use native.Mathlib.Omega.{arith}
-use Rattle.fields.specs.Fields.{onto, refusal_of}
+use Rattle.fields.specs.Fields.{Reading, onto, then}
 use Rattle.fields.specs.declared.Refusal.{Refusal}
-use Rattle.fields.specs.declared.Field.{Field}
-use Rattle.fields.specs.declared.Field.TheVariants as field
+use Rattle.std.specs.Prelude.{Err, Ok, Result}
 
 pub never : {A : Type 0} → ◌≡◌ {A = ℕ} 0 1 → A
 never z = absurd (omega arith)
 
--- the field was refused, and its refusal is handed up
-pub handed : {A : Type 0} (refused : Refusal → A) (f g : Field) (r : Refusal) (k : ℕ → ℕ → A) (o : A) → f ≡ g → f ≡ field.Refused r → o ≡ refused r → o ≡ onto refused g k
+-- a value that came of it came of a value
+pub then_is : {A B R : Type 0} (f : Reading A) (k : A → ℕ → Result B Refusal) (o : B) → ((v : A) (n : ℕ) → f ≡ Ok (v, n) → k v n ≡ Ok o → R) → then f k ≡ Ok o → R
+then_is (Ok (v, n)) k o go e = go v n refl e
+then_is (Err r) k o go e = never (cc)
+
+-- ---- over any way up
+
+-- the reading was refused
+pub handed : {A B : Type 0} (refused : Refusal → B) (f g : Reading A) (r : Refusal) (k : A → ℕ → B) (o : B) → f ≡ g → f ≡ Err r → o ≡ refused r → o ≡ onto refused g k
 handed refused f g r k o p q e = rw (← p, q, e)
 
--- the field was read
-pub went : {A : Type 0} (refused : Refusal → A) (f g : Field) (v n : ℕ) (k : ℕ → ℕ → A) (o : A) → f ≡ g → f ≡ field.Value v n → o ≡ k v n → o ≡ onto refused g k
+-- it was read
+pub went : {A B : Type 0} (refused : Refusal → B) (f g : Reading A) (v : A) (n : ℕ) (k : A → ℕ → B) (o : B) → f ≡ g → f ≡ Ok (v, n) → o ≡ k v n → o ≡ onto refused g k
 went refused f g v n k o p q e = rw (← p, q, e)
 
--- what came of it came by one of the two
-pub onto_is : {A R : Type 0} (refused : Refusal → A) (f : Field) (k : ℕ → ℕ → A) (o : A) → ((v n : ℕ) → f ≡ field.Value v n → k v n ≡ o → R) → ((r : Refusal) → refused r ≡ o → R) → onto refused f k ≡ o → R
-onto_is refused (field.Value v n) k o go bad e = go v n refl e
-onto_is refused (field.Refused r) k o go bad e = bad r e
-
--- the field was refused: the code hands up the refusal in its answer
-pub handed_up : {A : Type 0} (refused : Refusal → A) (f g : Field) (r x : Refusal) (k : ℕ → ℕ → A) → f ≡ g → f ≡ field.Refused r → x ≡ refusal_of f → refused x ≡ onto refused g k
+-- it was refused: the code hands up the refusal in its answer
+pub handed_up : {A B : Type 0} (refused : Refusal → B) (f g : Reading A) (r x : Refusal) (k : A → ℕ → B) → f ≡ g → f ≡ Err r → x ≡ r → refused x ≡ onto refused g k
 handed_up refused f g r x k p q e = rw (← p, e, q)

@@ -9,19 +9,19 @@ use native.Mathlib.Nat.{mod-eq_of_lt}
 use lib.ListN.{length, take, drop, length-append}
 use lib.Dec.{ltb, eqb}
 use borrow.Author.Tests.{ltb-true, lt-ltb, le-leb, eqb-true, eqb-false, eq-eqb}
-use Rattle.words.proofs.Laws.{both_left, both_right}
+use Rattle.words.proofs.Laws.{both_left, both_right, ok_place, ok_value}
 use Rattle.bits.specs.Bits.{bits_n, num_of}
 use Rattle.bits.proofs.Numbers.{Bits, length_bits_n, num_bits_n}
 use Rattle.bits.proofs.Bytes.{Holds, holds_split, holds_join, holds_within, part_bits, part_lt}
 use Rattle.fields.specs.Fields.{whole_number, run_at, sized_at}
 use Rattle.fields.specs.Encodings.{whole_bits, whole_fits}
-use Rattle.fields.specs.declared.Field.TheVariants as field
 use Rattle.fields.proofs.Answers.{run_is}
 use Rattle.fields.proofs.RoundTrip.{via, sized_read, sized_written}
 use Rattle.elements.specs.Arguments.{characters_fit, characters_bits, characters_in, sized_fits, sized_bits, facility_fits, facility_bits, facility_at, designation_at, atis_fits, atis_at}
 use Rattle.elements.proofs.Standing.{Stands, stands_join, stands_split, stands_as, both_hold, as_field, of_field}
 use Rattle.elements.proofs.Steps.{never}
 use Rattle.elements.proofs.Whole.{Ranged, ranged, whole_reads, whole_stands, whole_above, whole_below}
+use Rattle.std.specs.Prelude.{Ok}
 
 pub length_characters : (l : List ℕ) (at n : ℕ) → length (characters_in l at n) ≡ n
 unfolding characters_in
@@ -81,7 +81,7 @@ text_of l m next ok t f s =
 module _ (l : List ℕ) (at least most next : ℕ) where
   pub sized_reads : Ranged least most → 0 < least → (t : List ℕ)
       → Stands l at (sized_fits least most t) (sized_bits least most t) next
-      → sized_at l at 7 least most ≡ field.Value (length t) next
+      → sized_at l at 7 least most ≡ Ok (length t, next)
   unfolding sized_fits sized_bits
   sized_reads r p t s =
       let h = both_left (whole_fits least most (length t)) (characters_fit t) s.fits in
@@ -98,7 +98,7 @@ module _ (l : List ℕ) (at least most next : ℕ) where
       (whole_bits least most (length t)) (characters_bits t) s in
       text_of l _ next _ t q.1.fits q.1
 
-  pub sized_stands : Ranged least most → (n : ℕ) → Bits l → sized_at l at 7 least most ≡ field.Value n next
+  pub sized_stands : Ranged least most → (n : ℕ) → Bits l → sized_at l at 7 least most ≡ Ok (n, next)
       → Stands l at (sized_fits least most (characters_in l (next - 7 * n) n)) (sized_bits least most (characters_in l (next - 7 * n) n)) next
   unfolding sized_fits sized_bits
   sized_stands r n b e =
@@ -117,7 +117,7 @@ module _ (l : List ℕ) (at least most next : ℕ) where
 -- ---- a facility
 
 pub facility_reads : (l : List ℕ) (at next : ℕ) (t : List ℕ) → Stands l at (facility_fits t) (facility_bits t) next
-    → facility_at l at ≡ field.Value (length t) next
+    → facility_at l at ≡ Ok (length t, next)
 unfolding facility_fits facility_bits facility_at
 facility_reads l at next [] s = rw (whole_reads l at 0 1 0 next (ranged 0 1 tt tt) (stands_as l at next _ _ _ refl s))
 facility_reads l at next (c ∷ cs) s =
@@ -145,20 +145,20 @@ module _ (l : List ℕ) (at next : ℕ) where
   unfolding facility_fits facility_bits characters_in
   none m x k e p = stands_as l at m _ _ _ refl (rw e at p)
 
-  pub facility_stands : (n : ℕ) → Bits l → facility_at l at ≡ field.Value n next
+  pub facility_stands : (n : ℕ) → Bits l → facility_at l at ≡ Ok (n, next)
       → Stands l at (facility_fits (characters_in l (next - 7 * n) n)) (facility_bits (characters_in l (next - 7 * n) n)) next
   unfolding facility_at
   facility_stands n b e = via _ (whole_number l at 0 1) _ n next (λ (k m : ℕ)
-      (p : whole_number l at 0 1 ≡ field.Value k m)
-      (q : cond (eqb k 0) (field.Value 0 m) (designation_at l m) ≡ field.Value n next). chosen k m
+      (p : whole_number l at 0 1 ≡ Ok (k, m))
+      (q : cond (eqb k 0) (Ok (0, m)) (designation_at l m) ≡ Ok (n, next)). chosen k m
       (whole_stands l at 0 1 k m b p) (eqb k 0) refl q) e
     where
       chosen : (k m : ℕ) → Stands l at (whole_fits 0 1 k) (whole_bits 0 1 k) m → (z : Bool) → eqb k 0 ≡ z
-          → cond z (field.Value 0 m) (designation_at l m) ≡ field.Value n next
+          → cond z (Ok (0, m)) (designation_at l m) ≡ Ok (n, next)
           → Stands l at (facility_fits (characters_in l (next - 7 * n) n)) (facility_bits (characters_in l (next - 7 * n) n)) next
       chosen k m s true h q =
-          let i : 0 ≡ n = cc in
-          let j : m ≡ next = cc in
+          let i : 0 ≡ n = ok_value q in
+          let j : m ≡ next = ok_place q in
           rw (← i, ← j) (none m _ k (eqb-true k 0 h) s)
       chosen k m s false h q =
           let i : k ≡ 1 = let a = whole_below 0 1 k s.fits in let z = eqb-false k 0 h in omega arith in
@@ -167,7 +167,7 @@ module _ (l : List ℕ) (at next : ℕ) where
 -- ---- an ATIS code
 
 pub atis_reads : (l : List ℕ) (at next : ℕ) (t : List ℕ) → Stands l at (atis_fits t) (characters_bits t) next
-    → atis_at l at ≡ field.Value (length t) next
+    → atis_at l at ≡ Ok (length t, next)
 unfolding atis_fits run_at
 atis_reads l at next t s =
     let n : length t ≡ 1 = eqb-true (length t) 1 (both_left (eqb (length t) 1) (characters_fit t) s.fits) in
@@ -182,7 +182,7 @@ pub atis_text : (l : List ℕ) (at next : ℕ) (t : List ℕ) → Stands l at (a
 unfolding atis_fits
 atis_text l at next t s = text_of l at next _ t (both_right (eqb (length t) 1) (characters_fit t) s.fits) s
 
-pub atis_stands : (l : List ℕ) (at n next : ℕ) → Bits l → atis_at l at ≡ field.Value n next
+pub atis_stands : (l : List ℕ) (at n next : ℕ) → Bits l → atis_at l at ≡ Ok (n, next)
     → Stands l at (atis_fits (characters_in l (next - 7 * n) n)) (characters_bits (characters_in l (next - 7 * n) n)) next
 unfolding atis_fits
 atis_stands l at n next b e =

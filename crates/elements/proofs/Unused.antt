@@ -1,6 +1,6 @@
 -- What a kind does not use is zero: an element is what its kind uses, and nothing else.
 -- Assumes nothing.
-use mathlib.Core.Path.{◌≡◌, refl, sym, ◌∙◌}
+use mathlib.Core.Path.{◌≡◌, refl, ◌∙◌}
 use mathlib.Core.Bool.{Bool, true, false, not, ◌&&◌}
 use mathlib.Core.List.{List, [], ◌∷◌}
 use Prim.Native.Nat.{ℕ, suc}
@@ -14,7 +14,7 @@ use Rattle.elements.specs.declared.values.Level.{Level}
 use Rattle.elements.specs.declared.values.Time.{Time}
 use Rattle.elements.specs.declared.values.Element.{Element}
 use Rattle.elements.specs.Arguments.{no_type, same?}
-use Rattle.elements.specs.OneElement.{no_level, no_time, no_digits, with_characters, level_unused, time_unused, zeros, code_unused, levels_unused, plain, no_text_of}
+use Rattle.elements.specs.OneElement.{no_level, no_time, no_digits, level_unused, time_unused, zeros, code_unused, levels_unused, plain, no_text_of}
 use Rattle.elements.proofs.Levels.{same_is}
 
 pub level_unused_is : (x : Level) → level_unused x ≡ true → x ≡ no_level

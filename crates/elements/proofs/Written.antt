@@ -1,17 +1,15 @@
 -- The pieces that are written are the bits of the value, and each of them fits where the value does.
 -- Assumes nothing.
-use mathlib.Core.Path.{◌≡◌, refl, sym, ap, ◌∙◌}
-use mathlib.Core.Bool.{Bool, true, false, cond, ◌&&◌}
+use mathlib.Core.Path.{◌≡◌, refl}
+use mathlib.Core.Bool.{Bool, true, false, cond}
 use mathlib.Core.List.{List, [], ◌∷◌, ◌++◌, append_assoc, append-nil}
-use Prim.Native.Nat.{ℕ, suc, ◌-◌, ◌≤◌, ◌<◌}
+use Prim.Native.Nat.{ℕ, suc, ◌-◌}
 use native.Mathlib.Omega.{arith}
 use lib.ListN.{length}
-use lib.Dec.{eqb, leb, ltb}
-use borrow.Author.Tests.{le-leb, ltb-true, ne_eqb}
-use Rattle.words.proofs.Laws.{both_left, both_right}
+use borrow.Author.Tests.{ne_eqb}
 use Rattle.bits.specs.Bits.{bits_n}
 use Rattle.fields.specs.Fields.{digits_in}
-use Rattle.fields.specs.Encodings.{whole_bits, whole_fits}
+use Rattle.fields.specs.Encodings.{whole_bits}
 use Rattle.kinds.specs.declared.Direction.{Direction}
 use Rattle.kinds.specs.declared.ArgumentKind.{ArgumentKind}
 use Rattle.kinds.specs.declared.ArgumentKind.TheVariants as kind
@@ -19,10 +17,9 @@ use Rattle.elements.specs.declared.values.LevelType.{LevelType}
 use Rattle.elements.specs.declared.values.Level.{Level}
 use Rattle.elements.specs.declared.values.Time.{Time}
 use Rattle.elements.specs.declared.values.Element.{Element}
-use Rattle.kinds.specs.Elements.{kind_of}
-use Rattle.elements.specs.Arguments.{flag, level_type_fits, level_type_bits, level_fits, level_bits, time_fits, time_bits, digits_fit, digits_bits, characters_fit, characters_bits, sized_fits, sized_bits, facility_fits, facility_bits}
-use Rattle.elements.specs.OneElement.{argument_bits, element_bits, last_of}
-use Rattle.elements.specs.Writing.{Piece, whole, pieces_fit, pieces_bits, choice_piece, level_type_pieces, level_pieces, time_pieces, number_pieces, sized_pieces, facility_pieces, argument_pieces, index_piece, element_pieces}
+use Rattle.elements.specs.Arguments.{flag, level_type_bits, level_bits, time_bits, digits_bits, characters_bits, sized_bits, facility_bits}
+use Rattle.elements.specs.OneElement.{argument_bits, element_bits}
+use Rattle.elements.specs.Writing.{Piece, pieces_bits, level_type_pieces, level_pieces, time_pieces, number_pieces, sized_pieces, facility_pieces, argument_pieces, element_pieces}
 
 pub bits_append : (xs ys : List Piece) → pieces_bits (xs ++ ys) ≡ pieces_bits xs ++ pieces_bits ys
 unfolding pieces_bits

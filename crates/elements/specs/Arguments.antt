@@ -1,41 +1,12 @@
 -- The arguments that are carried, kind by kind: which values they have, their bits, and what reading their bits finds.
 -- The types are those of Doc 9705 2.3.4.3 (tables M-8, P-14 and P-24 have them too). None of them has an extension marker.
-use Rattle.std.specs.Prelude.{ℕ, zero, suc, ◌+◌, List, [], ◌∷◌, ◌++◌, Bool, true, false, cond, not, ◌&&◌, length, get_or, take, drop, eqb, ltb}
+use Rattle.std.specs.Prelude.{ℕ, zero, suc, ◌+◌, List, [], ◌∷◌, ◌++◌, Bool, true, false, cond, ◌&&◌, length, get_or, take, drop, eqb, ltb, Ok}
 use Rattle.bits.specs.Bits.{bits_n, num_of}
-use Rattle.fields.specs.Fields.{no_refusal, then, whole_number, contents_at, sized_at, onto}
+use Rattle.fields.specs.Fields.{Reading, then, whole_number, contents_at, sized_at}
 use Rattle.fields.specs.Encodings.{whole_bits, whole_fits}
-use Rattle.fields.specs.declared.Refusal.{Refusal}
-use Rattle.fields.specs.declared.Field.{Field}
-use Rattle.fields.specs.declared.Field.TheVariants as field
 use Rattle.elements.specs.declared.values.LevelType.{LevelType}
-use Rattle.elements.specs.declared.values.LevelTypeRead.{LevelTypeRead}
-use Rattle.elements.specs.declared.values.LevelTypeRead.TheVariants as type
 use Rattle.elements.specs.declared.values.Level.{Level}
-use Rattle.elements.specs.declared.values.LevelRead.{LevelRead}
-use Rattle.elements.specs.declared.values.LevelRead.TheVariants as level
 use Rattle.elements.specs.declared.values.Time.{Time}
-use Rattle.elements.specs.declared.values.TimeRead.{TimeRead}
-use Rattle.elements.specs.declared.values.TimeRead.TheVariants as time
-use Rattle.elements.specs.declared.values.Step.{Step}
-use Rattle.elements.specs.declared.values.Step.TheVariants as step
-use Rattle.elements.specs.declared.values.CodeRead.{CodeRead}
-
--- the refusal in an answer that is one
-abbrev pub type_refusal : LevelTypeRead → Refusal
-type_refusal (type.Got x next) = no_refusal
-type_refusal (type.Refused r) = r
-
-abbrev pub level_refusal : LevelRead → Refusal
-level_refusal (level.Got x next) = no_refusal
-level_refusal (level.Refused r) = r
-
-abbrev pub time_refusal : TimeRead → Refusal
-time_refusal (time.Got x next) = no_refusal
-time_refusal (time.Refused r) = r
-
-abbrev pub step_refusal : Step → Refusal
-step_refusal (step.Next next) = no_refusal
-step_refusal (step.Refused r) = r
 
 -- ---- LevelType: a CHOICE of four units
 
@@ -53,13 +24,13 @@ level_type_fits x = whole_fits 0 3 x.unit && whole_fits (lowest x.unit) (highest
 unfoldable pub level_type_bits : LevelType → List ℕ
 level_type_bits x = whole_bits 0 3 x.unit ++ whole_bits (lowest x.unit) (highest x.unit) x.number
 
-abbrev pub number_in_unit : List ℕ → ℕ → ℕ → LevelTypeRead
+abbrev pub number_in_unit : List ℕ → ℕ → ℕ → Reading LevelType
 number_in_unit l unit next =
-    onto type.Refused (whole_number l next (lowest unit) (highest unit))
-    (λ (n last : ℕ). type.Got (record { unit = unit; number = n }) last)
+    then (whole_number l next (lowest unit) (highest unit))
+    (λ (n last : ℕ). Ok (record { unit = unit; number = n }, last))
 
-unfoldable pub level_type_at : List ℕ → ℕ → LevelTypeRead
-level_type_at l at = onto type.Refused (whole_number l at 0 3) (number_in_unit l)
+unfoldable pub level_type_at : List ℕ → ℕ → Reading LevelType
+level_type_at l at = then (whole_number l at 0 3) (number_in_unit l)
 
 -- ---- Level: a CHOICE of one type, and two for a block
 
@@ -80,18 +51,14 @@ level_fits x = level_type_fits x.first && cond x.block (level_type_fits x.second
 unfoldable pub level_bits : Level → List ℕ
 level_bits x = whole_bits 0 1 (flag x.block) ++ level_type_bits x.first ++ cond x.block (level_type_bits x.second) []
 
-abbrev pub onto_type : LevelTypeRead → (LevelType → ℕ → LevelRead) → LevelRead
-onto_type (type.Got x next) k = k x next
-onto_type (type.Refused r) k = level.Refused r
-
-abbrev pub second_of : List ℕ → ℕ → LevelType → ℕ → LevelRead
+abbrev pub second_of : List ℕ → ℕ → LevelType → ℕ → Reading Level
 second_of l block first next =
-    cond (eqb block 0) (level.Got (record { block = false; first = first; second = no_type }) next)
-    (onto_type (level_type_at l next) (λ (second : LevelType) (last : ℕ). level.Got (record { block = true; first = first; second = second }) last))
+    cond (eqb block 0) (Ok (record { block = false; first = first; second = no_type }, next))
+    (then (level_type_at l next) (λ (second : LevelType) (last : ℕ). Ok (record { block = true; first = first; second = second }, last)))
 
-unfoldable pub level_at : List ℕ → ℕ → LevelRead
+unfoldable pub level_at : List ℕ → ℕ → Reading Level
 level_at l at =
-    onto level.Refused (whole_number l at 0 1) (λ (block next : ℕ). onto_type (level_type_at l next) (second_of l block))
+    then (whole_number l at 0 1) (λ (block next : ℕ). then (level_type_at l next) (second_of l block))
 
 -- ---- Time
 
@@ -101,12 +68,12 @@ time_fits x = whole_fits 0 23 x.hours && whole_fits 0 59 x.minutes
 unfoldable pub time_bits : Time → List ℕ
 time_bits x = whole_bits 0 23 x.hours ++ whole_bits 0 59 x.minutes
 
-abbrev pub minutes_of : List ℕ → ℕ → ℕ → TimeRead
+abbrev pub minutes_of : List ℕ → ℕ → ℕ → Reading Time
 minutes_of l hours next =
-    onto time.Refused (whole_number l next 0 59) (λ (m last : ℕ). time.Got (record { hours = hours; minutes = m }) last)
+    then (whole_number l next 0 59) (λ (m last : ℕ). Ok (record { hours = hours; minutes = m }, last))
 
-unfoldable pub time_at : List ℕ → ℕ → TimeRead
-time_at l at = onto time.Refused (whole_number l at 0 23) (minutes_of l)
+unfoldable pub time_at : List ℕ → ℕ → Reading Time
+time_at l at = then (whole_number l at 0 23) (minutes_of l)
 
 -- ---- Code: SEQUENCE SIZE (4) OF an octal digit
 
@@ -121,18 +88,13 @@ unfoldable pub digits_bits : List ℕ → List ℕ
 digits_bits [] = []
 digits_bits (d ∷ ds) = whole_bits 0 7 d ++ digits_bits ds
 
-abbrev pub no_code : Refusal → CodeRead
-no_code r = record { step = step.Refused r; digits = 0 ∷ 0 ∷ 0 ∷ 0 ∷ [] }
+abbrev pub digit : List ℕ → ℕ → (ℕ → ℕ → Reading (List ℕ)) → Reading (List ℕ)
+digit l at k = then (whole_number l at 0 7) k
 
-abbrev pub is_code : ℕ → List ℕ → CodeRead
-is_code next ds = record { step = step.Next next; digits = ds }
-
-abbrev pub digit : List ℕ → ℕ → (ℕ → ℕ → CodeRead) → CodeRead
-digit l at k = onto no_code (whole_number l at 0 7) k
-
-unfoldable pub code_at : List ℕ → ℕ → CodeRead
+unfoldable pub code_at : List ℕ → ℕ → Reading (List ℕ)
 code_at l at =
-    digit l at (λ (a p : ℕ). digit l p (λ (b q : ℕ). digit l q (λ (c r : ℕ). digit l r (λ (d next : ℕ). is_code next (a ∷ b ∷ c ∷ d ∷ [])))))
+    digit l at
+    (λ (a p : ℕ). digit l p (λ (b q : ℕ). digit l q (λ (c r : ℕ). digit l r (λ (d next : ℕ). Ok (a ∷ b ∷ c ∷ d ∷ [], next)))))
 
 -- ---- Characters: IA5String, seven bits each (X.691, 30.5). They are kept as a list of numbers below 128.
 
@@ -157,10 +119,10 @@ sized_fits least most t = whole_fits least most (length t) && characters_fit t
 unfoldable pub sized_bits : ℕ → ℕ → List ℕ → List ℕ
 sized_bits least most t = whole_bits least most (length t) ++ characters_bits t
 
-abbrev pub free_text_at : List ℕ → ℕ → Field
+abbrev pub free_text_at : List ℕ → ℕ → Reading ℕ
 free_text_at l at = sized_at l at 7 1 256
 
-abbrev pub designation_at : List ℕ → ℕ → Field
+abbrev pub designation_at : List ℕ → ℕ → Reading ℕ
 designation_at l at = sized_at l at 7 4 8
 
 -- Facility: a CHOICE of none and a designation; none has no characters
@@ -172,13 +134,13 @@ unfoldable pub facility_bits : List ℕ → List ℕ
 facility_bits [] = whole_bits 0 1 0
 facility_bits (c ∷ cs) = whole_bits 0 1 1 ++ sized_bits 4 8 (c ∷ cs)
 
-unfoldable pub facility_at : List ℕ → ℕ → Field
+unfoldable pub facility_at : List ℕ → ℕ → Reading ℕ
 facility_at l at =
-    then (whole_number l at 0 1) (λ (choice next : ℕ). cond (eqb choice 0) (field.Value 0 next) (designation_at l next))
+    then (whole_number l at 0 1) (λ (choice next : ℕ). cond (eqb choice 0) (Ok (0, next)) (designation_at l next))
 
 -- ATISCode: one character, without a length
 unfoldable pub atis_fits : List ℕ → Bool
 atis_fits t = eqb (length t) 1 && characters_fit t
 
-abbrev pub atis_at : List ℕ → ℕ → Field
+abbrev pub atis_at : List ℕ → ℕ → Reading ℕ
 atis_at l at = contents_at l at 7 1

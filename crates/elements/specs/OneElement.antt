@@ -1,28 +1,17 @@
 -- An element: its number, and the argument of the kind that the table gives it.
-use Rattle.std.specs.Prelude.{ℕ, zero, suc, ◌+◌, ◌-◌, ◌*◌, List, [], ◌∷◌, ◌++◌, Bool, true, false, cond, not, ◌&&◌, length, get_or, take, drop, eqb, ltb, leb}
-use Rattle.bits.specs.Bits.{bits_n}
-use Rattle.fields.specs.Fields.{refused_at, extensible_index, onto, refusal_of}
+use Rattle.std.specs.Prelude.{ℕ, ◌+◌, ◌-◌, ◌*◌, List, [], ◌∷◌, ◌++◌, Bool, true, false, not, ◌&&◌, length, eqb, Ok}
+use Rattle.fields.specs.Fields.{Reading, refused_at, extensible_index, then}
 use Rattle.fields.specs.Encodings.{index_bits, whole_fits}
-use Rattle.fields.specs.declared.Refusal.{Refusal}
 use Rattle.fields.specs.declared.Fault.TheVariants as fault
-use Rattle.fields.specs.declared.Field.{Field}
 use Rattle.kinds.specs.declared.Direction.{Direction}
 use Rattle.kinds.specs.declared.Direction.TheVariants.{Downlink, Uplink}
 use Rattle.kinds.specs.declared.ArgumentKind.{ArgumentKind}
 use Rattle.kinds.specs.declared.ArgumentKind.TheVariants as kind
 use Rattle.elements.specs.declared.values.Level.{Level}
-use Rattle.elements.specs.declared.values.LevelRead.{LevelRead}
-use Rattle.elements.specs.declared.values.LevelRead.TheVariants as level
 use Rattle.elements.specs.declared.values.Time.{Time}
-use Rattle.elements.specs.declared.values.TimeRead.{TimeRead}
-use Rattle.elements.specs.declared.values.TimeRead.TheVariants as time
-use Rattle.elements.specs.declared.values.Step.{Step}
-use Rattle.elements.specs.declared.values.Step.TheVariants as step
-use Rattle.elements.specs.declared.values.CodeRead.{CodeRead}
 use Rattle.elements.specs.declared.values.Element.{Element}
-use Rattle.elements.specs.declared.values.ElementRead.{ElementRead}
 use Rattle.kinds.specs.Elements.{kind_of}
-use Rattle.elements.specs.Arguments.{no_type, same?, level_fits, level_bits, level_at, time_fits, time_bits, time_at, code_fits_of, digits_bits, code_at, characters_fit, characters_bits, characters_in, sized_fits, sized_bits, free_text_at, designation_at, facility_fits, facility_bits, facility_at, atis_fits, atis_at}
+use Rattle.elements.specs.Arguments.{no_type, same?, level_fits, level_bits, level_at, time_fits, time_bits, time_at, code_fits_of, digits_bits, code_at, characters_bits, characters_in, sized_fits, sized_bits, free_text_at, designation_at, facility_fits, facility_bits, facility_at, atis_fits, atis_at}
 
 -- ---- what an element holds besides its number; what its kind does not use is zero
 
@@ -52,47 +41,29 @@ with_characters i n = record { number = i; level = no_level; other = no_level; t
 
 -- ---- reading
 
-abbrev pub is_element : Element → ℕ → ElementRead
-is_element e next = record { step = step.Next next; element = e }
-
-abbrev pub no_element : Refusal → ElementRead
-no_element r = record { step = step.Refused r; element = bare 0 }
-
-abbrev pub onto_level : LevelRead → (Level → ℕ → ElementRead) → ElementRead
-onto_level (level.Got x next) k = k x next
-onto_level (level.Refused r) k = no_element r
-
-abbrev pub onto_time : TimeRead → (Time → ℕ → ElementRead) → ElementRead
-onto_time (time.Got x next) k = k x next
-onto_time (time.Refused r) k = no_element r
-
-abbrev pub onto_step : Step → (ℕ → ElementRead) → ElementRead
-onto_step (step.Next next) k = k next
-onto_step (step.Refused r) k = no_element r
-
 -- characters that were read: how many there are
-abbrev pub characters_of : ℕ → Field → ElementRead
-characters_of i f = onto no_element f (λ (n next : ℕ). is_element (with_characters i n) next)
+abbrev pub characters_of : ℕ → Reading ℕ → Reading Element
+characters_of i f = then f (λ (n next : ℕ). Ok (with_characters i n, next))
 
-unfoldable pub level_argument : ℕ → List ℕ → ℕ → ElementRead
-level_argument i l at = onto_level (level_at l at) (λ (x : Level) (next : ℕ). is_element (with_levels i x no_level) next)
+unfoldable pub level_argument : ℕ → List ℕ → ℕ → Reading Element
+level_argument i l at = then (level_at l at) (λ (x : Level) (next : ℕ). Ok (with_levels i x no_level, next))
 
 -- LevelLevel: SEQUENCE SIZE (2) OF Level
-unfoldable pub two_levels_argument : ℕ → List ℕ → ℕ → ElementRead
+unfoldable pub two_levels_argument : ℕ → List ℕ → ℕ → Reading Element
 two_levels_argument i l at =
-    onto_level (level_at l at)
-    (λ (x : Level) (m : ℕ). onto_level (level_at l m) (λ (y : Level) (next : ℕ). is_element (with_levels i x y) next))
+    then (level_at l at)
+    (λ (x : Level) (m : ℕ). then (level_at l m) (λ (y : Level) (next : ℕ). Ok (with_levels i x y, next)))
 
-unfoldable pub time_argument : ℕ → List ℕ → ℕ → ElementRead
-time_argument i l at = onto_time (time_at l at) (λ (x : Time) (next : ℕ). is_element (with_time i x) next)
+unfoldable pub time_argument : ℕ → List ℕ → ℕ → Reading Element
+time_argument i l at = then (time_at l at) (λ (x : Time) (next : ℕ). Ok (with_time i x, next))
 
-unfoldable pub code_argument : ℕ → List ℕ → ℕ → ElementRead
-code_argument i l at = onto_step (code_at l at).step (λ (next : ℕ). is_element (with_code i (code_at l at).digits) next)
+unfoldable pub code_argument : ℕ → List ℕ → ℕ → Reading Element
+code_argument i l at = then (code_at l at) (λ (x : List ℕ) (next : ℕ). Ok (with_code i x, next))
 
 -- the argument of element i, by its kind; an element that is not carried is refused at its index
-unfoldable pub argument_at : ArgumentKind → ℕ → ℕ → List ℕ → ℕ → ElementRead
-argument_at kind.NotCarried i index l at = no_element (refusal_of (refused_at index fault.NotCarried))
-argument_at kind.None i index l at = is_element (bare i) at
+unfoldable pub argument_at : ArgumentKind → ℕ → ℕ → List ℕ → ℕ → Reading Element
+argument_at kind.NotCarried i index l at = refused_at index fault.NotCarried
+argument_at kind.None i index l at = Ok (bare i, at)
 argument_at kind.Level i index l at = level_argument i l at
 argument_at kind.TwoLevels i index l at = two_levels_argument i l at
 argument_at kind.Time i index l at = time_argument i l at
@@ -109,8 +80,8 @@ last_of Uplink = 236
 
 -- an element: the index of an extensible CHOICE, which stands behind the extension bit, and the argument; a kind that is not carried is a
 -- fault of the index
-unfoldable pub element_at : Direction → List ℕ → ℕ → ElementRead
-element_at d l at = onto no_element (extensible_index l at (last_of d)) (λ (i next : ℕ). argument_at (kind_of d i) i (at + 1) l next)
+unfoldable pub element_at : Direction → List ℕ → ℕ → Reading Element
+element_at d l at = then (extensible_index l at (last_of d)) (λ (i next : ℕ). argument_at (kind_of d i) i (at + 1) l next)
 
 -- ---- which elements there are, with the characters t beside them, and their bits
 

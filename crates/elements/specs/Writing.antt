@@ -1,10 +1,8 @@
 -- Writing: pieces one after another, each a run of bits that is written whole, or not where its value is none of its type.
 -- A piece that does not fit ends the writing; what was written before it stands. So a message is measured before its first bit is written.
-use Rattle.std.specs.Prelude.{ℕ, ◌^◌, ◌≤◌, ◌<◌, ◌≡◌, List, [], ◌∷◌, ◌++◌, Bool, true, false, cond, ◌&&◌, length, eqb}
+use Rattle.std.specs.Prelude.{ℕ, ◌^◌, ◌≤◌, ◌<◌, ◌≡◌, List, [], ◌∷◌, ◌++◌, Bool, true, false, cond, ◌&&◌, length, eqb, None, Option, Some}
 use Rattle.bits.specs.Bits.{bits_n}
 use Rattle.bits.specs.Put.{Left, left, put_if}
-use Rattle.bits.specs.declared.Put.{Put}
-use Rattle.bits.specs.declared.Put.TheVariants.{Next, Full}
 use Rattle.fields.specs.Encodings.{index_bits, whole_bits, whole_fits}
 use Rattle.elements.specs.declared.values.LevelType.{LevelType}
 use Rattle.elements.specs.declared.values.Level.{Level}
@@ -24,12 +22,12 @@ pub record Piece : Type 0 where
 abbrev pub whole : ℕ → ℕ → ℕ → Piece
 whole lo hi v = record { fits = whole_fits lo hi v; bits = whole_bits lo hi v }
 
-abbrev pub on_put : Put → List ℕ → (List ℕ → ℕ → Left) → Left
-on_put (Next p) s k = k s p
-on_put Full s k = left Full s
+abbrev pub on_put : Option ℕ → List ℕ → (List ℕ → ℕ → Left) → Left
+on_put (Some p) s k = k s p
+on_put None s k = left None s
 
 unfoldable pub put_pieces : List ℕ → ℕ → ℕ → List Piece → Left
-put_pieces s e at [] = left (Next at) s
+put_pieces s e at [] = left (Some at) s
 put_pieces s e at (x ∷ xs) =
     on_put (put_if x.fits s e at x.bits).answer (put_if x.fits s e at x.bits).bytes (λ (t : List ℕ) (p : ℕ). put_pieces t e p xs)
 

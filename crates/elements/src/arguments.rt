@@ -1,15 +1,12 @@
 // The arguments that are carried, kind by kind, read from the bits of a message at any place.
 ghost use Rattle.std.specs.Prelude.{◌≡◌};
 ghost use Rattle.bits.specs.Bits.{bits_to};
-ghost use Rattle.elements.specs.Arguments.{code_at, facility_at, highest, level_at, level_type_at, lowest, no_code, time_at};
+ghost use Rattle.elements.specs.Arguments.{code_at, facility_at, highest, level_at, level_type_at, lowest, time_at};
 
-use crate::values::{
-    CodeRead, Element, Level, LevelRead, LevelType, LevelTypeRead, Step, Time, TimeRead,
-    type_refusal,
-};
-use bits::Read;
-use fields::{Field, Refusal, refusal_of};
+use crate::values::{Element, Level, LevelType, Time};
+use fields::Reading;
 
+#[tactic(auto, using(crate::proofs::Levels::by_unit, crate::proofs::Levels::past_lowest), unfolding(crate::specs::Arguments::lowest))]
 pub(crate) fn lowest(unit: u64) -> u64
     ensures { result ≡ lowest unit }
 {
@@ -19,6 +16,7 @@ pub(crate) fn lowest(unit: u64) -> u64
     0
 }
 
+#[tactic(auto, using(crate::proofs::Levels::by_unit, crate::proofs::Levels::past_highest), unfolding(crate::specs::Arguments::highest))]
 pub(crate) fn highest(unit: u64) -> u64
     ensures { result ≡ highest unit }
 {
@@ -28,77 +26,62 @@ pub(crate) fn highest(unit: u64) -> u64
     0
 }
 
-pub fn read_level_type(s: &[u8], end: usize, at: usize) -> LevelTypeRead
+#[tactic(auto, using(crate::proofs::Whole::whole_most, crate::proofs::Levels::highest_small), unfolding(crate::specs::Arguments::level_type_at))]
+pub fn read_level_type(s: &[u8], end: usize, at: usize) -> Reading<LevelType>
     ensures { result ≡ level_type_at (bits_to s.now end) at }
 {
-    let choice = fields::whole(s, end, at, 0, LevelType::LAST_UNIT);
-    let Field::Value(unit, next) = choice else {
-        return LevelTypeRead::Refused(refusal_of(choice));
-    };
-    let amount = fields::whole(s, end, next, lowest(unit), highest(unit));
-    let Field::Value(number, last) = amount else {
-        return LevelTypeRead::Refused(refusal_of(amount));
-    };
-    LevelTypeRead::Got(
+    let (unit, next) = fields::whole(s, end, at, 0, LevelType::LAST_UNIT)?;
+    let (number, last) = fields::whole(s, end, next, lowest(unit), highest(unit))?;
+    Ok((
         LevelType {
             unit: unit as u8,
             number: number as u16,
         },
         last,
-    )
+    ))
 }
 
-fn read_level_by_fields(s: &[u8], end: usize, at: usize) -> LevelRead
+#[tactic(auto, unfolding(crate::specs::Arguments::level_at))]
+fn read_level_by_fields(s: &[u8], end: usize, at: usize) -> Reading<Level>
     ensures { result ≡ level_at (bits_to s.now end) at }
 {
-    let choice = fields::whole(s, end, at, 0, 1);
-    let Field::Value(block, from) = choice else {
-        return LevelRead::Refused(refusal_of(choice));
-    };
-    let one = read_level_type(s, end, from);
-    let LevelTypeRead::Got(first, next) = one else {
-        return LevelRead::Refused(type_refusal(one));
-    };
+    let (block, from) = fields::whole(s, end, at, 0, 1)?;
+    let (first, next) = read_level_type(s, end, from)?;
     if block == 0 {
-        return LevelRead::Got(
+        return Ok((
             Level {
                 block: false,
                 first,
                 second: LevelType::EMPTY,
             },
             next,
-        );
+        ));
     }
-    let two = read_level_type(s, end, next);
-    let LevelTypeRead::Got(second, last) = two else {
-        return LevelRead::Refused(type_refusal(two));
-    };
-    LevelRead::Got(
+    let (second, last) = read_level_type(s, end, next)?;
+    Ok((
         Level {
             block: true,
             first,
             second,
         },
         last,
-    )
+    ))
 }
 
 // A level that is no block: the index 0 of the CHOICE and the unit as one number; else, and where something is refused, field by field.
-pub fn read_level(s: &[u8], end: usize, at: usize) -> LevelRead
+pub fn read_level(s: &[u8], end: usize, at: usize) -> Reading<Level>
     ensures { result ≡ level_at (bits_to s.now end) at }
 {
-    let front = bits::read_bits(s, end, at, Level::FRONT_BITS);
-    let Read::Number(unit, next) = front else {
+    let Some((unit, next)) = bits::read_bits(s, end, at, Level::FRONT_BITS) else {
         return read_level_by_fields(s, end, at);
     };
     if LevelType::LAST_UNIT < unit {
         return read_level_by_fields(s, end, at);
     }
-    let amount = fields::whole(s, end, next, lowest(unit), highest(unit));
-    let Field::Value(number, last) = amount else {
+    let Ok((number, last)) = fields::whole(s, end, next, lowest(unit), highest(unit)) else {
         return read_level_by_fields(s, end, at);
     };
-    LevelRead::Got(
+    Ok((
         Level {
             block: false,
             first: LevelType {
@@ -108,90 +91,59 @@ pub fn read_level(s: &[u8], end: usize, at: usize) -> LevelRead
             second: LevelType::EMPTY,
         },
         last,
-    )
+    ))
 }
 
-pub fn read_time(s: &[u8], end: usize, at: usize) -> TimeRead
+#[tactic(auto, using(crate::proofs::Whole::whole_most), unfolding(crate::specs::Arguments::time_at))]
+pub fn read_time(s: &[u8], end: usize, at: usize) -> Reading<Time>
     ensures { result ≡ time_at (bits_to s.now end) at }
 {
-    let first = fields::whole(s, end, at, 0, Time::LAST_HOUR);
-    let Field::Value(hours, next) = first else {
-        return TimeRead::Refused(refusal_of(first));
-    };
-    let second = fields::whole(s, end, next, 0, Time::LAST_MINUTE);
-    let Field::Value(minutes, last) = second else {
-        return TimeRead::Refused(refusal_of(second));
-    };
-    TimeRead::Got(
+    let (hours, next) = fields::whole(s, end, at, 0, Time::LAST_HOUR)?;
+    let (minutes, last) = fields::whole(s, end, next, 0, Time::LAST_MINUTE)?;
+    Ok((
         Time {
             hours: hours as u8,
             minutes: minutes as u8,
         },
         last,
-    )
+    ))
 }
 
-fn no_code(r: Refusal) -> CodeRead
-    ensures { result ≡ no_code r }
-{
-    CodeRead {
-        step: Step::Refused(r),
-        digits: [0; 4],
-    }
-}
-
-fn read_code_by_fields(s: &[u8], end: usize, at: usize) -> CodeRead
+#[tactic(auto, using(crate::proofs::Whole::whole_most), unfolding(crate::specs::Arguments::code_at))]
+fn read_code_by_fields(s: &[u8], end: usize, at: usize) -> Reading<[u8; 4]>
     ensures { result ≡ code_at (bits_to s.now end) at }
 {
-    let first = fields::whole(s, end, at, 0, Element::LAST_DIGIT);
-    let Field::Value(a, p) = first else {
-        return no_code(refusal_of(first));
-    };
-    let second = fields::whole(s, end, p, 0, Element::LAST_DIGIT);
-    let Field::Value(b, q) = second else {
-        return no_code(refusal_of(second));
-    };
-    let third = fields::whole(s, end, q, 0, Element::LAST_DIGIT);
-    let Field::Value(c, r) = third else {
-        return no_code(refusal_of(third));
-    };
-    let fourth = fields::whole(s, end, r, 0, Element::LAST_DIGIT);
-    let Field::Value(d, next) = fourth else {
-        return no_code(refusal_of(fourth));
-    };
-    CodeRead {
-        step: Step::Next(next),
-        digits: [a as u8, b as u8, c as u8, d as u8],
-    }
+    let (a, p) = fields::whole(s, end, at, 0, Element::LAST_DIGIT)?;
+    let (b, q) = fields::whole(s, end, p, 0, Element::LAST_DIGIT)?;
+    let (c, r) = fields::whole(s, end, q, 0, Element::LAST_DIGIT)?;
+    let (d, next) = fields::whole(s, end, r, 0, Element::LAST_DIGIT)?;
+    Ok(([a as u8, b as u8, c as u8, d as u8], next))
 }
 
 // The four digits as one number, or one by one.
-pub fn read_code(s: &[u8], end: usize, at: usize) -> CodeRead
+pub fn read_code(s: &[u8], end: usize, at: usize) -> Reading<[u8; 4]>
     ensures { result ≡ code_at (bits_to s.now end) at }
 {
-    let all = bits::read_bits(s, end, at, Element::CODE_BITS);
-    let Read::Number(v, next) = all else {
+    let Some((v, next)) = bits::read_bits(s, end, at, Element::CODE_BITS) else {
         return read_code_by_fields(s, end, at);
     };
     let c = v / 8;
     let b = c / 8;
     let a = b / 8;
-    CodeRead {
-        step: Step::Next(next),
-        digits: [(a % 8) as u8, (b % 8) as u8, (c % 8) as u8, (v % 8) as u8],
-    }
+    Ok((
+        [(a % 8) as u8, (b % 8) as u8, (c % 8) as u8, (v % 8) as u8],
+        next,
+    ))
 }
 
 // A facility: how many characters its designation has, none where there is none.
-pub fn facility(s: &[u8], end: usize, at: usize) -> Field
+#[tactic(auto, unfolding(crate::specs::Arguments::facility_at))]
+pub fn facility(s: &[u8], end: usize, at: usize) -> Reading<u64>
     ensures { result ≡ facility_at (bits_to s.now end) at }
 {
-    let choice = fields::whole(s, end, at, 0, 1);
-    let Field::Value(designated, next) = choice else {
-        return choice;
-    };
+    let (designated, next) = fields::whole(s, end, at, 0, 1)?;
     if designated == 0 {
-        return Field::Value(0, next);
+        return Ok((0, next));
     }
     fields::sized(
         s,

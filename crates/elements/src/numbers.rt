@@ -7,49 +7,36 @@ ghost use Rattle.elements.specs.Measuring.{all_most};
 ghost use Rattle.elements.specs.Writing.{number_pieces, put_pieces};
 
 use crate::values::Element;
-use bits::Put;
-
-fn wide(x: u8) -> u64
-    ensures { result ≡ x }
-{
-    x as u64
-}
-
-fn greater(a: u8, b: u8) -> u8
-    ensures { result ≡ max a b }
-{
-    if a < b { b } else { a }
-}
 
 // Numbers of which none is above hi: the digits of a code, characters, what is unused.
 // The greatest of them is looked for, to the end, so that the compiler takes sixteen at a time.
+#[tactic(auto, using(crate::proofs::Measured::most_none, crate::proofs::Measured::most_turn, crate::proofs::Measured::most_done))]
 pub fn all_most(hi: u64, items: &[u8]) -> bool
     ensures { result ≡ all_most hi items.now }
 {
     let mut most: u8 = 0;
-    let mut i: usize = 0;
-    while i < items.len() {
-        most = greater(most, items[i]);
-        i += 1;
+    for item in items {
+        most = most.max(*item);
     }
-    wide(most) <= hi
+    most as u64 <= hi
 }
 
 // Numbers from 0 to hi, one after another: the digits of a code, or characters.
-pub(crate) fn put_numbers(buf: &mut [u8], end: usize, at: usize, hi: u64, items: &[u8]) -> Put
+#[tactic(auto, using(crate::proofs::Pieces::numbers_turn, crate::proofs::Pieces::numbers_full, crate::proofs::Pieces::numbers_done))]
+pub(crate) fn put_numbers(
+    buf: &mut [u8],
+    end: usize,
+    at: usize,
+    hi: u64,
+    items: &[u8],
+) -> Option<usize>
     ensures { left result buf.new ≡ put_pieces buf.old end at (number_pieces hi items.now) }
 {
-    let mut i: usize = 0;
     let mut p = at;
-    while i < items.len() {
-        let one = fields::put_whole(buf, end, p, 0, hi, wide(items[i]));
-        let Put::Next(next) = one else {
-            return Put::Full;
-        };
-        p = next;
-        i += 1;
+    for item in items {
+        p = fields::put_whole(buf, end, p, 0, hi, *item as u64)?;
     }
-    Put::Next(p)
+    Some(p)
 }
 
 // At most eight characters as one number, seven bits each.
@@ -58,10 +45,8 @@ fn gathered(items: &[u8]) -> u64
     ensures { (bits_n (7 * length items.now) result ≡ characters_bits items.now) × (result < 2 ^ (7 * length items.now)) }
 {
     let mut v: u64 = 0;
-    let mut i: usize = 0;
-    while i < items.len() {
-        v = v * 128 + wide(items[i]);
-        i += 1;
+    for item in items {
+        v = v * 128 + *item as u64;
     }
     v
 }
@@ -80,29 +65,28 @@ fn have_room(len: usize, end: usize, at: usize, items: &[u8]) -> bool
 }
 
 // Characters that all have room, a few: eight at a time as one number, and the rest as one.
-fn put_eights(buf: &mut [u8], end: usize, at: usize, items: &[u8]) -> Put
+fn put_eights(buf: &mut [u8], end: usize, at: usize, items: &[u8]) -> Option<usize>
     requires { (characters_fit items.now ≡ true) × (at + 7 * length items.now ≤ min end (8 * length buf.old)) }
     ensures { left result buf.new ≡ put_pieces buf.old end at (number_pieces 127 items.now) }
 {
-    let mut i: usize = 0;
-    while 8 <= items.len() - i {
-        let v = gathered(&items[i..i + 8]);
+    let eights = items.len() / 8;
+    for k in 0..eights {
+        let v = gathered(&items[8 * k..8 * k + 8]);
         bits::put_bits(
             buf,
             end,
-            at + Element::CHARACTER_BITS * i,
+            at + 8 * Element::CHARACTER_BITS * k,
             8 * Element::CHARACTER_BITS,
             v,
         );
-        i += 8;
     }
-    let v = gathered(&items[i..]);
+    let rest = &items[8 * eights..];
     bits::put_bits(
         buf,
         end,
-        at + Element::CHARACTER_BITS * i,
-        Element::CHARACTER_BITS * (items.len() - i),
-        v,
+        at + 8 * Element::CHARACTER_BITS * eights,
+        Element::CHARACTER_BITS * rest.len(),
+        gathered(rest),
     )
 }
 
@@ -120,25 +104,29 @@ fn put_sixteen(buf: &mut [u8], end: usize, at: usize, items: &[u8])
 }
 
 // Characters that all have room: sixteen at a time, and then the rest.
-fn put_sixteens(buf: &mut [u8], end: usize, at: usize, items: &[u8]) -> Put
+fn put_sixteens(buf: &mut [u8], end: usize, at: usize, items: &[u8]) -> Option<usize>
     requires { (characters_fit items.now ≡ true) × (at + 7 * length items.now ≤ min end (8 * length buf.old)) }
     ensures { left result buf.new ≡ put_pieces buf.old end at (number_pieces 127 items.now) }
 {
-    let mut i: usize = 0;
-    while 16 <= items.len() - i {
+    let sixteens = items.len() / 16;
+    for k in 0..sixteens {
         put_sixteen(
             buf,
             end,
-            at + Element::CHARACTER_BITS * i,
-            &items[i..i + 16],
+            at + 16 * Element::CHARACTER_BITS * k,
+            &items[16 * k..16 * k + 16],
         );
-        i += 16;
     }
-    put_eights(buf, end, at + Element::CHARACTER_BITS * i, &items[i..])
+    put_eights(
+        buf,
+        end,
+        at + 16 * Element::CHARACTER_BITS * sixteens,
+        &items[16 * sixteens..],
+    )
 }
 
 // Characters: tested once, or one by one as far as they go.
-pub(crate) fn put_characters(buf: &mut [u8], end: usize, at: usize, items: &[u8]) -> Put
+pub(crate) fn put_characters(buf: &mut [u8], end: usize, at: usize, items: &[u8]) -> Option<usize>
     ensures { left result buf.new ≡ put_pieces buf.old end at (number_pieces 127 items.now) }
 {
     if have_room(buf.len(), end, at, items) {

@@ -2,112 +2,92 @@
 ghost use Rattle.std.specs.Prelude.{◌≡◌};
 ghost use Rattle.bits.specs.Bits.{bits_to};
 ghost use Rattle.elements.specs.Arguments.{atis_at, designation_at, facility_at, free_text_at};
-ghost use Rattle.elements.specs.OneElement.{argument_at, characters_of, code_argument, element_at, last_of, level_argument, no_element, time_argument, two_levels_argument};
+ghost use Rattle.elements.specs.OneElement.{argument_at, characters_of, code_argument, element_at, last_of, level_argument, time_argument, two_levels_argument};
 
 use crate::arguments::{facility, read_code, read_level, read_time};
-use crate::values::{
-    Element, ElementRead, LevelRead, Step, TimeRead, level_refusal, step_refusal, time_refusal,
-};
-use fields::{Fault, Field, Refusal, refusal_of};
+use crate::values::Element;
+use fields::{Fault, Reading, refused_at};
 use kinds::{ArgumentKind, Direction, kind_of};
 
-fn no_element(r: Refusal) -> ElementRead
-    ensures { result ≡ no_element r }
-{
-    ElementRead {
-        step: Step::Refused(r),
-        element: Element::EMPTY,
-    }
-}
-
-fn level_argument(number: u8, s: &[u8], end: usize, at: usize) -> ElementRead
+#[tactic(auto, unfolding(crate::specs::OneElement::level_argument))]
+fn level_argument(number: u8, s: &[u8], end: usize, at: usize) -> Reading<Element>
     ensures { result ≡ level_argument number (bits_to s.now end) at }
 {
-    let one = read_level(s, end, at);
-    let LevelRead::Got(level, next) = one else {
-        return no_element(level_refusal(one));
-    };
-    let mut element = Element::EMPTY;
-    element.number = number;
-    element.level = level;
-    ElementRead {
-        step: Step::Next(next),
-        element,
-    }
+    let (level, next) = read_level(s, end, at)?;
+    Ok((
+        Element {
+            number,
+            level,
+            ..Element::EMPTY
+        },
+        next,
+    ))
 }
 
-fn two_levels_argument(number: u8, s: &[u8], end: usize, at: usize) -> ElementRead
+#[tactic(auto, unfolding(crate::specs::OneElement::two_levels_argument))]
+fn two_levels_argument(number: u8, s: &[u8], end: usize, at: usize) -> Reading<Element>
     ensures { result ≡ two_levels_argument number (bits_to s.now end) at }
 {
-    let one = read_level(s, end, at);
-    let LevelRead::Got(level, from) = one else {
-        return no_element(level_refusal(one));
-    };
-    let two = read_level(s, end, from);
-    let LevelRead::Got(other, next) = two else {
-        return no_element(level_refusal(two));
-    };
-    let mut element = Element::EMPTY;
-    element.number = number;
-    element.level = level;
-    element.other = other;
-    ElementRead {
-        step: Step::Next(next),
-        element,
-    }
+    let (level, from) = read_level(s, end, at)?;
+    let (other, next) = read_level(s, end, from)?;
+    Ok((
+        Element {
+            number,
+            level,
+            other,
+            ..Element::EMPTY
+        },
+        next,
+    ))
 }
 
-fn time_argument(number: u8, s: &[u8], end: usize, at: usize) -> ElementRead
+#[tactic(auto, unfolding(crate::specs::OneElement::time_argument))]
+fn time_argument(number: u8, s: &[u8], end: usize, at: usize) -> Reading<Element>
     ensures { result ≡ time_argument number (bits_to s.now end) at }
 {
-    let one = read_time(s, end, at);
-    let TimeRead::Got(time, next) = one else {
-        return no_element(time_refusal(one));
-    };
-    let mut element = Element::EMPTY;
-    element.number = number;
-    element.time = time;
-    ElementRead {
-        step: Step::Next(next),
-        element,
-    }
+    let (time, next) = read_time(s, end, at)?;
+    Ok((
+        Element {
+            number,
+            time,
+            ..Element::EMPTY
+        },
+        next,
+    ))
 }
 
-fn code_argument(number: u8, s: &[u8], end: usize, at: usize) -> ElementRead
+#[tactic(auto, unfolding(crate::specs::OneElement::code_argument))]
+fn code_argument(number: u8, s: &[u8], end: usize, at: usize) -> Reading<Element>
     ensures { result ≡ code_argument number (bits_to s.now end) at }
 {
-    let code = read_code(s, end, at);
-    let step = code.step;
-    let Step::Next(next) = step else {
-        return no_element(step_refusal(step));
-    };
-    let digits = code.digits;
-    let mut element = Element::EMPTY;
-    element.number = number;
-    element.code = digits;
-    ElementRead {
-        step: Step::Next(next),
-        element,
-    }
+    let (code, next) = read_code(s, end, at)?;
+    Ok((
+        Element {
+            number,
+            code,
+            ..Element::EMPTY
+        },
+        next,
+    ))
 }
 
 // Characters that were read, at most 256.
-fn characters(number: u8, count: Field) -> ElementRead
+fn characters(number: u8, count: Reading<u64>) -> Reading<Element>
     ensures { result ≡ characters_of number count }
 {
-    let Field::Value(n, next) = count else {
-        return no_element(refusal_of(count));
-    };
-    let mut element = Element::EMPTY;
-    element.number = number;
-    element.characters = n;
-    ElementRead {
-        step: Step::Next(next),
-        element,
-    }
+    let (characters, next) = count?;
+    Ok((
+        Element {
+            number,
+            characters,
+            ..Element::EMPTY
+        },
+        next,
+    ))
 }
 
 // The argument of the element whose index stands at a place.
+#[tactic(auto, unfolding(crate::specs::OneElement::argument_at))]
 fn read_argument(
     kind: ArgumentKind,
     number: u8,
@@ -115,22 +95,18 @@ fn read_argument(
     s: &[u8],
     end: usize,
     at: usize,
-) -> ElementRead
+) -> Reading<Element>
     ensures { result ≡ argument_at kind number index (bits_to s.now end) at }
 {
     match kind {
-        ArgumentKind::NotCarried => no_element(refusal_of(fields::refused_at(
-            index,
-            Fault::NotCarried,
-        ))),
-        ArgumentKind::None => {
-            let mut element = Element::EMPTY;
-            element.number = number;
-            ElementRead {
-                step: Step::Next(at),
-                element,
-            }
-        }
+        ArgumentKind::NotCarried => refused_at(index, Fault::NotCarried),
+        ArgumentKind::None => Ok((
+            Element {
+                number,
+                ..Element::EMPTY
+            },
+            at,
+        )),
         ArgumentKind::Level => level_argument(number, s, end, at),
         ArgumentKind::TwoLevels => two_levels_argument(number, s, end, at),
         ArgumentKind::Time => time_argument(number, s, end, at),
@@ -165,6 +141,7 @@ fn read_argument(
     }
 }
 
+#[tactic(auto, unfolding(crate::specs::OneElement::last_of))]
 pub(crate) fn last_of(direction: Direction) -> u64
     ensures { result ≡ last_of direction }
 {
@@ -174,13 +151,11 @@ pub(crate) fn last_of(direction: Direction) -> u64
     }
 }
 
-pub fn read_element(direction: Direction, s: &[u8], end: usize, at: usize) -> ElementRead
+#[tactic(auto, unfolding(crate::specs::OneElement::element_at))]
+pub fn read_element(direction: Direction, s: &[u8], end: usize, at: usize) -> Reading<Element>
     ensures { result ≡ element_at direction (bits_to s.now end) at }
 {
-    let index = fields::extensible_index(s, end, at, last_of(direction));
-    let Field::Value(i, next) = index else {
-        return no_element(refusal_of(index));
-    };
+    let (i, next) = fields::extensible_index(s, end, at, last_of(direction))?;
     let number = i as u8;
     let kind = kind_of(direction, number);
     // The index stands behind the extension bit.

@@ -1,27 +1,22 @@
 // The values of an element and its argument. Whatever a value does not use is zero.
-ghost use Rattle.std.specs.Prelude.{◌≡◌};
-ghost use Rattle.fields.specs.Fields.{refusal_of};
-ghost use Rattle.elements.specs.Arguments.{level_refusal, step_refusal, time_refusal, type_refusal};
-
-use fields::{Field, Refusal};
 
 // A level in one unit: 0 feet (tens), 1 metres, 2 flight level, 3 metric flight level (tens of metres).
 // Feet and metres, which may be below zero, are counted from the lowest that the type has: -60 and -30.
-#[derive(Clone, Copy)]
+#[derive(Clone, Copy, PartialEq, Eq)]
 pub struct LevelType {
     pub unit: u8,
     pub number: u16,
 }
 
 // A level, or the two between which a block lies.
-#[derive(Clone, Copy)]
+#[derive(Clone, Copy, PartialEq, Eq)]
 pub struct Level {
     pub block: bool,
     pub first: LevelType,
     pub second: LevelType,
 }
 
-#[derive(Clone, Copy)]
+#[derive(Clone, Copy, PartialEq, Eq)]
 pub struct Time {
     pub hours: u8,
     pub minutes: u8,
@@ -98,85 +93,4 @@ impl Element {
         code: [0; 4],
         characters: 0,
     };
-}
-
-// What reading finds: the value and the place after it, or the refusal.
-#[derive(Drop)]
-pub enum LevelTypeRead {
-    Got(LevelType, usize),
-    Refused(Refusal),
-}
-
-#[derive(Drop)]
-pub enum LevelRead {
-    Got(Level, usize),
-    Refused(Refusal),
-}
-
-#[derive(Drop)]
-pub enum TimeRead {
-    Got(Time, usize),
-    Refused(Refusal),
-}
-
-#[derive(Clone, Copy)]
-pub enum Step {
-    Next(usize),
-    Refused(Refusal),
-}
-
-#[derive(Drop)]
-pub struct CodeRead {
-    pub step: Step,
-    pub digits: [u8; 4],
-}
-
-#[derive(Drop)]
-pub struct ElementRead {
-    pub step: Step,
-    pub element: Element,
-}
-
-// What measuring finds: how many bits a value takes, or that it is none of its type.
-#[derive(Clone, Copy)]
-pub enum Size {
-    Bits(usize),
-    Shape,
-}
-
-// The refusal in an answer that is one.
-pub fn type_refusal(f: LevelTypeRead) -> Refusal
-    ensures { result ≡ type_refusal f }
-{
-    match f {
-        LevelTypeRead::Got(_, _) => Refusal::NONE,
-        LevelTypeRead::Refused(r) => r,
-    }
-}
-
-pub fn level_refusal(f: LevelRead) -> Refusal
-    ensures { result ≡ level_refusal f }
-{
-    match f {
-        LevelRead::Got(_, _) => Refusal::NONE,
-        LevelRead::Refused(r) => r,
-    }
-}
-
-pub fn time_refusal(f: TimeRead) -> Refusal
-    ensures { result ≡ time_refusal f }
-{
-    match f {
-        TimeRead::Got(_, _) => Refusal::NONE,
-        TimeRead::Refused(r) => r,
-    }
-}
-
-pub fn step_refusal(f: Step) -> Refusal
-    ensures { result ≡ step_refusal f }
-{
-    match f {
-        Step::Next(_) => Refusal::NONE,
-        Step::Refused(r) => r,
-    }
 }

@@ -10,95 +10,82 @@ use crate::numbers::{put_characters, put_numbers};
 use crate::reading::last_of;
 use crate::short::{short_argument, short_level};
 use crate::values::{Element, Level, LevelType, Time};
-use bits::Put;
 use kinds::{ArgumentKind, Direction};
 
-fn put_level_type(buf: &mut [u8], end: usize, at: usize, x: LevelType) -> Put
+#[tactic(auto, unfolding(crate::specs::Writing::put_pieces, crate::specs::Writing::level_type_pieces))]
+fn put_level_type(buf: &mut [u8], end: usize, at: usize, x: LevelType) -> Option<usize>
     ensures { left result buf.new ≡ put_pieces buf.old end at (level_type_pieces x) }
 {
     let unit = x.unit as u64;
-    let first = fields::put_whole(buf, end, at, 0, LevelType::LAST_UNIT, unit);
-    let Put::Next(next) = first else {
-        return Put::Full;
-    };
+    let next = fields::put_whole(buf, end, at, 0, LevelType::LAST_UNIT, unit)?;
     fields::put_whole(buf, end, next, lowest(unit), highest(unit), x.number as u64)
 }
 
-fn put_time(buf: &mut [u8], end: usize, at: usize, x: Time) -> Put
+#[tactic(auto, unfolding(crate::specs::Writing::put_pieces, crate::specs::Writing::time_pieces))]
+fn put_time(buf: &mut [u8], end: usize, at: usize, x: Time) -> Option<usize>
     ensures { left result buf.new ≡ put_pieces buf.old end at (time_pieces x) }
 {
-    let first = fields::put_whole(buf, end, at, 0, Time::LAST_HOUR, x.hours as u64);
-    let Put::Next(next) = first else {
-        return Put::Full;
-    };
+    let next = fields::put_whole(buf, end, at, 0, Time::LAST_HOUR, x.hours as u64)?;
     fields::put_whole(buf, end, next, 0, Time::LAST_MINUTE, x.minutes as u64)
 }
 
 // The index of a CHOICE of two.
-fn put_choice(buf: &mut [u8], end: usize, at: usize, second: bool) -> Put
+#[tactic(auto, unfolding(crate::specs::Writing::put_pieces))]
+fn put_choice(buf: &mut [u8], end: usize, at: usize, second: bool) -> Option<usize>
     ensures { left result buf.new ≡ put_pieces buf.old end at (choice_piece second) }
 {
-    if second {
-        return fields::put_whole(buf, end, at, 0, 1, 1);
-    }
-    fields::put_whole(buf, end, at, 0, 1, 0)
+    fields::put_whole(buf, end, at, 0, 1, if second { 1 } else { 0 })
 }
 
-fn put_level_by_fields(buf: &mut [u8], end: usize, at: usize, x: Level) -> Put
+#[tactic(auto, using(crate::proofs::Pieces::pieces_append), unfolding(crate::specs::Writing::put_pieces, crate::specs::Writing::level_pieces))]
+fn put_level_by_fields(buf: &mut [u8], end: usize, at: usize, x: Level) -> Option<usize>
     ensures { left result buf.new ≡ put_pieces buf.old end at (level_pieces x) }
 {
-    let block = x.block;
-    let choice = put_choice(buf, end, at, block);
-    let Put::Next(p) = choice else {
-        return Put::Full;
-    };
-    let one = x.first;
-    let first = put_level_type(buf, end, p, one);
-    let Put::Next(q) = first else {
-        return Put::Full;
-    };
-    if block {
-        let two = x.second;
-        return put_level_type(buf, end, q, two);
+    let p = put_choice(buf, end, at, x.block)?;
+    let q = put_level_type(buf, end, p, x.first)?;
+    if x.block {
+        return put_level_type(buf, end, q, x.second);
     }
-    first
+    Some(q)
 }
 
 // A level: one that is no block as one number, of which the first bit is the index 0 of the CHOICE; else piece after piece.
-fn put_level(buf: &mut [u8], end: usize, at: usize, x: Level) -> Put
+fn put_level(buf: &mut [u8], end: usize, at: usize, x: Level) -> Option<usize>
     ensures { left result buf.new ≡ put_pieces buf.old end at (level_pieces x) }
 {
-    let short = short_level(x);
-    if short.known {
-        if bits::within(buf.len(), end, at, short.bits) {
-            return bits::put_bits(buf, end, at, short.bits, short.number);
+    match short_level(x) {
+        Some(short) if bits::within(buf.len(), end, at, short.bits) => {
+            bits::put_bits(buf, end, at, short.bits, short.number)
         }
+        _ => put_level_by_fields(buf, end, at, x),
     }
-    put_level_by_fields(buf, end, at, x)
 }
 
 // A string of a size from least to most.
-fn put_sized(buf: &mut [u8], end: usize, at: usize, least: u64, most: u64, text: &[u8]) -> Put
+#[tactic(auto, unfolding(crate::specs::Writing::put_pieces, crate::specs::Writing::sized_pieces))]
+fn put_sized(
+    buf: &mut [u8],
+    end: usize,
+    at: usize,
+    least: u64,
+    most: u64,
+    text: &[u8],
+) -> Option<usize>
     ensures { left result buf.new ≡ put_pieces buf.old end at (sized_pieces least most text.now) }
 {
-    let size = fields::put_whole(buf, end, at, least, most, text.len() as u64);
-    let Put::Next(next) = size else {
-        return Put::Full;
-    };
+    let next = fields::put_whole(buf, end, at, least, most, text.len() as u64)?;
     put_characters(buf, end, next, text)
 }
 
 // A facility: none has no characters.
-fn put_facility(buf: &mut [u8], end: usize, at: usize, text: &[u8]) -> Put
+#[tactic(auto, unfolding(crate::specs::Writing::put_pieces, crate::specs::Writing::facility_pieces))]
+fn put_facility(buf: &mut [u8], end: usize, at: usize, text: &[u8]) -> Option<usize>
     ensures { left result buf.new ≡ put_pieces buf.old end at (facility_pieces text.now) }
 {
-    if text.len() == 0 {
+    if text.is_empty() {
         return put_choice(buf, end, at, false);
     }
-    let choice = put_choice(buf, end, at, true);
-    let Put::Next(next) = choice else {
-        return Put::Full;
-    };
+    let next = put_choice(buf, end, at, true)?;
     put_sized(
         buf,
         end,
@@ -109,23 +96,22 @@ fn put_facility(buf: &mut [u8], end: usize, at: usize, text: &[u8]) -> Put
     )
 }
 
-fn put_two_levels(buf: &mut [u8], end: usize, at: usize, x: Level, y: Level) -> Put
+#[tactic(auto, using(crate::proofs::Pieces::pieces_append))]
+fn put_two_levels(buf: &mut [u8], end: usize, at: usize, x: Level, y: Level) -> Option<usize>
     ensures { left result buf.new ≡ put_pieces buf.old end at (level_pieces x ++ level_pieces y) }
 {
-    let first = put_level(buf, end, at, x);
-    let Put::Next(next) = first else {
-        return Put::Full;
-    };
+    let next = put_level(buf, end, at, x)?;
     put_level(buf, end, next, y)
 }
 
-fn put_code(buf: &mut [u8], end: usize, at: usize, code: [u8; 4]) -> Put
+fn put_code(buf: &mut [u8], end: usize, at: usize, code: [u8; 4]) -> Option<usize>
     ensures { left result buf.new ≡ put_pieces buf.old end at (number_pieces 7 code) }
 {
     put_numbers(buf, end, at, Element::LAST_DIGIT, &code)
 }
 
 // The argument of an element, whose characters are `text`.
+#[tactic(auto, unfolding(bits::specs::Put::put_if, crate::specs::Writing::put_pieces, crate::specs::Writing::argument_pieces))]
 fn put_argument(
     buf: &mut [u8],
     end: usize,
@@ -133,29 +119,16 @@ fn put_argument(
     kind: ArgumentKind,
     e: Element,
     text: &[u8],
-) -> Put
+) -> Option<usize>
     ensures { left result buf.new ≡ put_pieces buf.old end at (argument_pieces kind e text.now) }
 {
     match kind {
-        ArgumentKind::NotCarried => Put::Full,
-        ArgumentKind::None => Put::Next(at),
-        ArgumentKind::Level => {
-            let x = e.level;
-            put_level(buf, end, at, x)
-        }
-        ArgumentKind::TwoLevels => {
-            let x = e.level;
-            let y = e.other;
-            put_two_levels(buf, end, at, x, y)
-        }
-        ArgumentKind::Time => {
-            let x = e.time;
-            put_time(buf, end, at, x)
-        }
-        ArgumentKind::Code => {
-            let x = e.code;
-            put_code(buf, end, at, x)
-        }
+        ArgumentKind::NotCarried => None,
+        ArgumentKind::None => Some(at),
+        ArgumentKind::Level => put_level(buf, end, at, e.level),
+        ArgumentKind::TwoLevels => put_two_levels(buf, end, at, e.level, e.other),
+        ArgumentKind::Time => put_time(buf, end, at, e.time),
+        ArgumentKind::Code => put_code(buf, end, at, e.code),
         ArgumentKind::FreeText => put_sized(
             buf,
             end,
@@ -177,7 +150,24 @@ fn put_argument(
     }
 }
 
-// An element with an argument of a kind, whose characters are `text`: index and argument as one number where they are one; else piece after piece.
+// An element with an argument of a kind, whose characters are `text`: index and argument, piece after piece.
+#[tactic(auto, unfolding(crate::specs::Writing::put_pieces))]
+fn put_element_by_pieces(
+    buf: &mut [u8],
+    end: usize,
+    at: usize,
+    direction: Direction,
+    kind: ArgumentKind,
+    e: Element,
+    text: &[u8],
+) -> Option<usize>
+    ensures { left result buf.new ≡ put_pieces buf.old end at (element_pieces_as direction kind e text.now) }
+{
+    let next = fields::put_extensible_index(buf, end, at, last_of(direction), e.number as u64)?;
+    put_argument(buf, end, next, kind, e, text)
+}
+
+// The same as one number where index and argument are one; else piece after piece.
 pub fn put_element(
     buf: &mut [u8],
     end: usize,
@@ -186,23 +176,16 @@ pub fn put_element(
     kind: ArgumentKind,
     e: Element,
     text: &[u8],
-) -> Put
+) -> Option<usize>
     ensures { left result buf.new ≡ put_pieces buf.old end at (element_pieces_as direction kind e text.now) }
 {
-    let number = e.number as u64;
-    let last = last_of(direction);
-    let short = short_argument(kind, e);
-    if short.known {
+    if let Some(short) = short_argument(kind, e) {
+        let number = e.number as u64;
+        let last = last_of(direction);
         let n = 1 + whole_bits(0, last) + short.bits;
-        if number <= last {
-            if bits::within(buf.len(), end, at, n) {
-                return bits::put_bits(buf, end, at, n, (number << short.bits) + short.number);
-            }
+        if number <= last && bits::within(buf.len(), end, at, n) {
+            return bits::put_bits(buf, end, at, n, (number << short.bits) + short.number);
         }
     }
-    let index = fields::put_extensible_index(buf, end, at, last, number);
-    let Put::Next(next) = index else {
-        return Put::Full;
-    };
-    put_argument(buf, end, next, kind, e, text)
+    put_element_by_pieces(buf, end, at, direction, kind, e, text)
 }

@@ -13,12 +13,13 @@ use borrow.Author.Tests.{le-ltb, le-leb}
 use Rattle.envelope.specs.Envelopes.{bytes_for, envelope_at, Content, content, content_of, bytes_of, header, placed, Fit, fits, Left, left, wrote, write_envelope}
 use Rattle.envelope.specs.Strings.{string_of, all_placed, AllFit, none, more, contents_of}
 use Rattle.envelope.specs.declared.Envelope.{Envelope}
-use Rattle.envelope.specs.declared.EnvelopeRead.TheVariants.{Is}
-use Rattle.envelope.specs.declared.EnvelopeWritten.TheVariants.{Bytes, Room, Shape}
 use Rattle.envelope.proofs.Numbers.{AllBytes}
 use Rattle.envelope.proofs.Sizes.{padded_taken, is_fit}
 use Rattle.envelope.proofs.RoundTrip.{written_read, read_written}
 use Rattle.envelope.proofs.Strings.{placed_next}
+use Rattle.std.specs.Prelude.{Err, Ok}
+use Rattle.words.specs.declared.Unwritten.TheVariants.{Room}
+use Rattle.words.specs.declared.Unwritten.TheVariants.{Shape}
 
 -- ---- what lies where an envelope was placed is what was written
 
@@ -69,28 +70,28 @@ module _ (room limit : ℕ) (w : limit < 2 ^ 64) (out : List ℕ) (kind job bits
     pub buffer : z ≡ bytes_of (content kind job bits body) ++ drop n out
 
   wrote_by : (a b : Bool) (z : List ℕ) (n : ℕ) → fits limit kind job bits body ≡ b
-      → cond a (left Room out) (cond b (wrote (bytes_of (content kind job bits body)) out) (left Shape out)) ≡ left (Bytes n) z
+      → cond a (left (Err Room) out) (cond b (wrote (bytes_of (content kind job bits body)) out) (left (Err Shape) out)) ≡ left (Ok n) z
       → Wrote z n
-  wrote_by true b z n p e = let x : Room ≡ Bytes n = ap (λ (l : Left). l.answer) e in let o : ◌≡◌ {A = ℕ} 0 1 = cc in absurd (omega arith)
-  wrote_by false false z n p e = let x : Shape ≡ Bytes n = ap (λ (l : Left). l.answer) e in let o : ◌≡◌ {A = ℕ} 0 1 = cc in absurd (omega arith)
+  wrote_by true b z n p e = let x : Err Room ≡ Ok n = ap (λ (l : Left). l.answer) e in let o : ◌≡◌ {A = ℕ} 0 1 = cc in absurd (omega arith)
+  wrote_by false false z n p e = let x : Err Shape ≡ Ok n = ap (λ (l : Left). l.answer) e in let o : ◌≡◌ {A = ℕ} 0 1 = cc in absurd (omega arith)
   wrote_by false true z n p e =
-      let x : Bytes (length (bytes_of (content kind job bits body))) ≡ Bytes n = ap (λ (l : Left). l.answer) e in
+      let x : Ok (length (bytes_of (content kind job bits body))) ≡ Ok n = ap (λ (l : Left). l.answer) e in
       let y : bytes_of (content kind job bits body) ++ drop (length (bytes_of (content kind job bits body))) out ≡ z = ap
       (λ (l : Left). l.bytes) e in
       let m : n ≡ length (bytes_of (content kind job bits body)) = cc in
       record { fit = is_fit limit kind job bits body p small; count = m; buffer = rw m (sym y) }
 
-  pub is_wrote : (z : List ℕ) (n : ℕ) → write_envelope room limit out kind job bits body ≡ left (Bytes n) z → Wrote z n
+  pub is_wrote : (z : List ℕ) (n : ℕ) → write_envelope room limit out kind job bits body ≡ left (Ok n) z → Wrote z n
   unfolding write_envelope
   is_wrote z n e = wrote_by (ltb (length out) room) (fits limit kind job bits body) z n refl e
 
   -- what was written is read back, and the next position is the answer
   pub record Back (z : List ℕ) (n : ℕ) : Type 0 where
-    pub reads : envelope_at limit z 0 ≡ Is (placed 0 (content kind job bits body))
+    pub reads : envelope_at limit z 0 ≡ Ok (placed 0 (content kind job bits body))
     pub says : content_of z (placed 0 (content kind job bits body)) ≡ content kind job bits body
     pub next : (placed 0 (content kind job bits body)).next ≡ n
 
-  pub write_read : (z : List ℕ) (n : ℕ) → write_envelope room limit out kind job bits body ≡ left (Bytes n) z → Back z n
+  pub write_read : (z : List ℕ) (n : ℕ) → write_envelope room limit out kind job bits body ≡ left (Ok n) z → Back z n
   unfolding placed
   write_read z n e =
       let r = is_wrote z n e in
@@ -120,7 +121,7 @@ fits_read limit s e f =
 
 -- the envelope that was read between two positions is written as the bytes between them
 pub read_write : (room limit : ℕ) (s : List ℕ) (at : ℕ) (e : Envelope) (out : List ℕ) → AllBytes s
-    → envelope_at limit s at ≡ Is e → room ≤ length out
+    → envelope_at limit s at ≡ Ok e → room ≤ length out
     → write_envelope room limit out e.kind e.job e.bits (drop e.body s) ≡ wrote (take (e.next - at) (drop at s)) out
 unfolding write_envelope
 read_write room limit s at e out b p h =

@@ -6,11 +6,10 @@ use mathlib.Core.Bool.{Bool, true, false, ◌&&◌}
 use mathlib.Core.List.{List, [], ◌∷◌}
 use lib.ListN.{length}
 use lib.Dec.{eqb}
-use Rattle.envelope.specs.Numbers.{groups, number, number_in, number_at}
+use Rattle.envelope.specs.Numbers.{NumberRead, groups, number, number_in, number_at}
 use Rattle.envelope.specs.Envelopes.{most_bits, is_kind, size_fits, bytes_for, is_padded, body_at, size_at, job_at, kind_at, envelope_at}
 use Rattle.envelope.specs.Examples.{Row, reads, answers}
-use Rattle.envelope.specs.declared.Number.{Number}
-use Rattle.envelope.specs.declared.Number.TheVariants as num
+use Rattle.std.specs.Prelude.{Err, Ok}
 
 abbrev refuses : List ℕ → ℕ → Row
 refuses l n = record { bytes = l; refusal = n; kind = 0; job = 0; bits = 0 }
@@ -67,9 +66,9 @@ same [] (y ∷ ys) = false
 same (x ∷ xs) [] = false
 same (x ∷ xs) (y ∷ ys) = eqb x y && same xs ys
 
-abbrev is_value : Number → ℕ → ℕ → Bool
-is_value (num.Value v n) w m = eqb v w && eqb n m
-is_value (num.Refused r) w m = false
+abbrev is_value : NumberRead → ℕ → ℕ → Bool
+is_value (Ok (v, n)) w m = eqb v w && eqb n m
+is_value (Err r) w m = false
 
 -- written as these bytes, and read back from them
 abbrev agree : List Pair → Bool

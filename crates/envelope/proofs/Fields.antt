@@ -11,21 +11,15 @@ use lib.Seq.{get_or-drop}
 use lib.Pow.{pow_pos}
 use borrow.Author.Tests.{ltb-true, ltb-false, le-ltb, lt-ltb, eq-eqb, ne_eqb}
 use Rattle.words.proofs.Laws.{cond_yes, cond_no}
-use Rattle.envelope.specs.Numbers.{number_at}
-use Rattle.envelope.specs.Envelopes.{is_kind, size_fits, bytes_for, is_padded, then, refused_by, body_at, size_at, job_at, kind_at}
+use Rattle.envelope.specs.Numbers.{NumberRead, number_at}
+use Rattle.words.specs.Readings.{then}
+use Rattle.envelope.specs.Envelopes.{is_kind, size_fits, bytes_for, is_padded, body_at, size_at, job_at, kind_at}
 use Rattle.envelope.specs.declared.EnvelopeRefusal.{EnvelopeRefusal}
 use Rattle.envelope.specs.declared.EnvelopeRefusal.TheVariants.{Cut, Groups, Kind, Size}
-use Rattle.envelope.specs.declared.Number.{Number}
-use Rattle.envelope.specs.declared.Number.TheVariants as num
 use Rattle.envelope.specs.declared.Envelope.{Envelope}
-use Rattle.envelope.specs.declared.EnvelopeRead.{EnvelopeRead}
-use Rattle.envelope.specs.declared.EnvelopeRead.TheVariants.{Is, Refused}
+use Rattle.std.specs.Prelude.{Err, Ok, Result}
 
 -- ---- bytes and padding
-
-pub bytes_for_is : (bits : ℕ) → bits / 8 + (bits % 8 + 7) / 8 ≡ bytes_for bits
-unfolding bytes_for
-bytes_for_is bits = omega arith
 
 below8 : (P : ℕ → Type 0) → P 0 → P 1 → P 2 → P 3 → P 4 → P 5 → P 6 → P 7 → (j : ℕ) → j < 8 → P j
 below8 P a b c d e f g h zero l = a
@@ -81,53 +75,53 @@ pub body_within : (l n : ℕ) (t : Bool) → t ≡ ltb l n → t ≡ false → n
 body_within l n t e h = ltb-false l n (sym e ∙ h)
 
 module _ (s : List ℕ) (kind job bits at : ℕ) (t : Bool) (e : t ≡ ltb (length s) (at + bytes_for bits)) where
-  pub body_cut : t ≡ true → Refused Cut ≡ body_at s kind job bits at
+  pub body_cut : t ≡ true → Err Cut ≡ body_at s kind job bits at
   unfolding body_at
   body_cut h = rw (← e, h)
 
   pub body_is : (p : Bool) (n : ℕ) → t ≡ false → p ≡ is_padded bits (drop at s) → p ≡ true → n ≡ bytes_for bits
-      → Is (at_body kind job bits at n) ≡ body_at s kind job bits at
+      → Ok (at_body kind job bits at n) ≡ body_at s kind job bits at
   unfolding body_at
   body_is p n h q k m = rw (← e, h, ← q, k, m)
 
-  pub body_loud : (p : Bool) → t ≡ false → p ≡ is_padded bits (drop at s) → p ≡ false → Refused Size ≡ body_at s kind job bits at
+  pub body_loud : (p : Bool) → t ≡ false → p ≡ is_padded bits (drop at s) → p ≡ false → Err Size ≡ body_at s kind job bits at
   unfolding body_at
   body_loud p h q k = rw (← e, h, ← q, k)
 
 -- ---- a number is taken apart: its refusal goes up unchanged, or its value goes on
 
-pub handed : (f g : Number) (a : EnvelopeRead) (r : EnvelopeRefusal) (k : ℕ → ℕ → EnvelopeRead) → f ≡ g
-    → f ≡ num.Refused r → a ≡ refused_by f → a ≡ then g k
+pub handed : (f g : NumberRead) (a : Result Envelope EnvelopeRefusal) (r : EnvelopeRefusal) (k : ℕ → ℕ → Result Envelope EnvelopeRefusal) → f ≡ g
+    → f ≡ Err r → a ≡ Err r → a ≡ then g k
 handed f g a r k p q e = e ∙ rw (← p, q)
 
-pub went : (f g : Number) (a : EnvelopeRead) (v n : ℕ) (k : ℕ → ℕ → EnvelopeRead) → f ≡ g → f ≡ num.Value v n → a ≡ k v n → a ≡ then g k
+pub went : (f g : NumberRead) (a : Result Envelope EnvelopeRefusal) (v n : ℕ) (k : ℕ → ℕ → Result Envelope EnvelopeRefusal) → f ≡ g → f ≡ Ok (v, n) → a ≡ k v n → a ≡ then g k
 went f g a v n k p q e = e ∙ rw (← p, q)
 
 -- ---- the three fields, by the code's tests
 
 module _ (limit : ℕ) (s : List ℕ) (kind at : ℕ) (t : Bool) (e : t ≡ is_kind kind) where
-  pub kind_refused : t ≡ false → Refused Kind ≡ kind_at limit s kind at
+  pub kind_refused : t ≡ false → Err Kind ≡ kind_at limit s kind at
   unfolding kind_at
   kind_refused h = cond_no (is_kind kind) _ _ _ (sym e ∙ h) refl
 
-  pub kind_taken : (a : EnvelopeRead) → t ≡ true → a ≡ then (number_at s at) (job_at limit s kind) → a ≡ kind_at limit s kind at
+  pub kind_taken : (a : Result Envelope EnvelopeRefusal) → t ≡ true → a ≡ then (number_at s at) (job_at limit s kind) → a ≡ kind_at limit s kind at
   unfolding kind_at
   kind_taken a h p = cond_yes (is_kind kind) _ _ _ (sym e ∙ h) p
 
 module _ (limit : ℕ) (s : List ℕ) (kind job at : ℕ) where
-  pub job_refused : job ≡ 0 → Refused Groups ≡ job_at limit s kind job at
+  pub job_refused : job ≡ 0 → Err Groups ≡ job_at limit s kind job at
   unfolding job_at
   job_refused h = rw (eq-eqb job 0 h)
 
-  pub job_taken : (a : EnvelopeRead) → (job ≡ 0 → ⊥) → a ≡ then (number_at s at) (size_at limit s kind job) → a ≡ job_at limit s kind job at
+  pub job_taken : (a : Result Envelope EnvelopeRefusal) → (job ≡ 0 → ⊥) → a ≡ then (number_at s at) (size_at limit s kind job) → a ≡ job_at limit s kind job at
   unfolding job_at
   job_taken a h p = cond_no (eqb job 0) _ _ _ (ne_eqb job 0 h) p
 
 module _ (limit : ℕ) (s : List ℕ) (kind job bits at : ℕ) (t : Bool) (e : t ≡ size_fits limit kind bits) where
-  pub size_refused : t ≡ false → Refused Size ≡ size_at limit s kind job bits at
+  pub size_refused : t ≡ false → Err Size ≡ size_at limit s kind job bits at
   unfolding size_at
   size_refused h = cond_no (size_fits limit kind bits) _ _ _ (sym e ∙ h) refl
 
-  pub size_taken : (a : EnvelopeRead) → t ≡ true → a ≡ body_at s kind job bits at → a ≡ size_at limit s kind job bits at
+  pub size_taken : (a : Result Envelope EnvelopeRefusal) → t ≡ true → a ≡ body_at s kind job bits at → a ≡ size_at limit s kind job bits at
   unfolding size_at
   size_taken a h p = cond_yes (size_fits limit kind bits) _ _ _ (sym e ∙ h) p

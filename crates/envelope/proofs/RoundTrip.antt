@@ -9,24 +9,23 @@ use lib.Dec.{ltb, eqb}
 use lib.ListN.{length, take, drop, length-append, length-drop, take-append-drop}
 use lib.Seq.{drop-drop, drop-append_seam, length-take-le, get_or-drop}
 use borrow.Author.Tests.{le-ltb, ltb-false}
-use Rattle.envelope.specs.Numbers.{groups, number, number_in, onward, number_at}
-use Rattle.envelope.specs.Envelopes.{is_kind, size_fits, bytes_for, is_padded, then, body_at, size_at, job_at, kind_at, envelope_at, Content, content, content_of, bytes_of, header, placed, Fit}
+use Rattle.words.proofs.Laws.{ok_value, ok_place}
+use Rattle.envelope.specs.Numbers.{NumberRead, groups, number, number_in, onward, number_at}
+use Rattle.words.specs.Readings.{then}
+use Rattle.envelope.specs.Envelopes.{is_kind, size_fits, bytes_for, is_padded, body_at, size_at, job_at, kind_at, envelope_at, Content, content, content_of, bytes_of, header, placed, Fit}
 use Rattle.envelope.specs.declared.EnvelopeRefusal.{EnvelopeRefusal}
 use Rattle.envelope.specs.declared.EnvelopeRefusal.TheVariants.{Cut, Groups, Kind, Size}
-use Rattle.envelope.specs.declared.Number.{Number}
-use Rattle.envelope.specs.declared.Number.TheVariants as num
 use Rattle.envelope.specs.declared.Envelope.{Envelope}
-use Rattle.envelope.specs.declared.EnvelopeRead.{EnvelopeRead}
-use Rattle.envelope.specs.declared.EnvelopeRead.TheVariants.{Is, Refused}
 use Rattle.envelope.proofs.Numbers.{AllBytes, groups_read, groups_written}
 use Rattle.envelope.proofs.Puts.{groups_pos}
 use Rattle.envelope.proofs.Sizes.{kind_small, bits_small, padded_front, padded_taken}
+use Rattle.std.specs.Prelude.{Err, Ok, Result}
 
 -- ---- a number at a position of bytes
 
 -- the bytes of v stand at a position, and t follows them at next
 pub record NumberAt (s : List ℕ) (at v next : ℕ) (t : List ℕ) : Type 0 where
-  pub value : number_at s at ≡ num.Value v next
+  pub value : number_at s at ≡ Ok (v, next)
   pub small : v < 2 ^ 64
   pub place : next ≡ at + length (number v)
   pub within : next ≤ length s
@@ -49,18 +48,18 @@ number_read s at v t h e =
     }
 
 -- what a number that was read says
-from_position : (z : Number) (at v next : ℕ) (A : Type 0) → onward at z ≡ num.Value v next
-    → ((n : ℕ) → z ≡ num.Value v n → next ≡ at + n → A) → A
-from_position (num.Value x n) at v next A e k =
-    let p : x ≡ v = cc in
-    let q : next ≡ at + n = cc in
+from_position : (z : NumberRead) (at v next : ℕ) (A : Type 0) → onward at z ≡ Ok (v, next)
+    → ((n : ℕ) → z ≡ Ok (v, n) → next ≡ at + n → A) → A
+from_position (Ok (x, n)) at v next A e k =
+    let p : x ≡ v = ok_value e in
+    let q : next ≡ at + n = sym (ok_place e) in
     k n (rw p) q
-from_position (num.Refused r) at v next A e k = let z : ◌≡◌ {A = ℕ} 0 1 = cc in absurd (omega arith)
+from_position (Err r) at v next A e k = let z : ◌≡◌ {A = ℕ} 0 1 = cc in absurd (omega arith)
 
 bytes_after : (s : List ℕ) (at : ℕ) → AllBytes s → AllBytes (drop at s)
 bytes_after s at b k = rw (get_or-drop at s k 0) (b (at + k))
 
-number_is : (s : List ℕ) (at v n next : ℕ) → AllBytes s → number_in 9 (drop at s) ≡ num.Value v n → next ≡ at + n
+number_is : (s : List ℕ) (at v n next : ℕ) → AllBytes s → number_in 9 (drop at s) ≡ Ok (v, n) → next ≡ at + n
     → NumberAt s at v next (drop next s)
 unfolding number
 number_is s at v n next b p q =
@@ -69,11 +68,11 @@ number_is s at v n next b p q =
     let h : drop at s ≡ groups 9 v ++ drop (at + length (groups 9 v)) s = r.holds ∙ rw (drop-drop n at s, r.place) in
     rw m (number_read s at v (drop (at + length (groups 9 v)) s) r.small h)
 
-pub number_written : (s : List ℕ) (at v next : ℕ) → AllBytes s → number_at s at ≡ num.Value v next → NumberAt s at v next (drop next s)
+pub number_written : (s : List ℕ) (at v next : ℕ) → AllBytes s → number_at s at ≡ Ok (v, next) → NumberAt s at v next (drop next s)
 unfolding number_at
 number_written s at v next b e =
     from_position (number_in 9 (drop at s)) at v next (NumberAt s at v next (drop next s)) e
-    (λ (n : ℕ) (p : number_in 9 (drop at s) ≡ num.Value v n) (q : next ≡ at + n). number_is s at v n next b p q)
+    (λ (n : ℕ) (p : number_in 9 (drop at s) ≡ Ok (v, n)) (q : next ≡ at + n). number_is s at v n next b p q)
 
 -- ---- an envelope's bytes
 
@@ -92,7 +91,7 @@ length_whole c = simp length-append (omega arith)
 -- ---- what is written is read back, and the next position is its end
 
 pub written_read : (limit : ℕ) → limit < 2 ^ 64 → (c : Content) → Fit limit c → (s : List ℕ) (at : ℕ) (t : List ℕ)
-    → drop at s ≡ bytes_of c ++ t → envelope_at limit s at ≡ Is (placed at c)
+    → drop at s ≡ bytes_of c ++ t → envelope_at limit s at ≡ Ok (placed at c)
 unfolding envelope_at kind_at job_at size_at body_at placed
 written_read limit w c f s at t e =
     let k = kind_small c.kind f.kind in
@@ -120,18 +119,18 @@ pub record ReadIs (limit : ℕ) (s : List ℕ) (at : ℕ) (e : Envelope) : Type 
   pub holds : drop at s ≡ bytes_of (content_of s e) ++ drop e.next s
 
 -- an answer that is an envelope was not a refusal on the way
-yes_of : (t : Bool) (x : EnvelopeRead) (r : EnvelopeRefusal) (e : Envelope) → cond t x (Refused r) ≡ Is e → (t ≡ true) × (x ≡ Is e)
+yes_of : (t : Bool) (x : Result Envelope EnvelopeRefusal) (r : EnvelopeRefusal) (e : Envelope) → cond t x (Err r) ≡ Ok e → (t ≡ true) × (x ≡ Ok e)
 yes_of true x r e p = (refl, p)
 yes_of false x r e p = let z : ◌≡◌ {A = ℕ} 0 1 = cc in absurd (omega arith)
 
-no_of : (t : Bool) (x : EnvelopeRead) (r : EnvelopeRefusal) (e : Envelope) → cond t (Refused r) x ≡ Is e → (t ≡ false) × (x ≡ Is e)
+no_of : (t : Bool) (x : Result Envelope EnvelopeRefusal) (r : EnvelopeRefusal) (e : Envelope) → cond t (Err r) x ≡ Ok e → (t ≡ false) × (x ≡ Ok e)
 no_of false x r e p = (refl, p)
 no_of true x r e p = let z : ◌≡◌ {A = ℕ} 0 1 = cc in absurd (omega arith)
 
-via : (z : Number) (k : ℕ → ℕ → EnvelopeRead) (e : Envelope) (A : Type 0)
-    → ((v n : ℕ) → z ≡ num.Value v n → k v n ≡ Is e → A) → then z k ≡ Is e → A
-via (num.Value v n) k e A f p = f v n refl p
-via (num.Refused r) k e A f p = let z : ◌≡◌ {A = ℕ} 0 1 = cc in absurd (omega arith)
+via : (z : NumberRead) (k : ℕ → ℕ → Result Envelope EnvelopeRefusal) (e : Envelope) (A : Type 0)
+    → ((v n : ℕ) → z ≡ Ok (v, n) → k v n ≡ Ok e → A) → then z k ≡ Ok e → A
+via (Ok (v, n)) k e A f p = f v n refl p
+via (Err r) k e A f p = let z : ◌≡◌ {A = ℕ} 0 1 = cc in absurd (omega arith)
 
 same_place : (kind job bits : ℕ) {a b m n : ℕ} → a ≡ b → m ≡ n → ◌≡◌ {A = Envelope} (record { kind = kind; job = job; bits = bits; body = a; next = m }) (record { kind = kind; job = job; bits = bits; body = b; next = n })
 same_place kind job bits p q = rw (p, q)
@@ -158,9 +157,9 @@ module _ (limit : ℕ) (s : List ℕ) (at : ℕ) (b : AllBytes s) where
             (grouped (content kind job bits (drop t s)) (drop (t + bytes_for bits) s)));
       }
 
-  from_body : (e : Envelope) (kind job bits p q t : ℕ) → number_at s at ≡ num.Value kind p
-      → number_at s p ≡ num.Value job q → number_at s q ≡ num.Value bits t → is_kind kind ≡ true → eqb job 0 ≡ false
-      → size_fits limit kind bits ≡ true → body_at s kind job bits t ≡ Is e → ReadIs limit s at e
+  from_body : (e : Envelope) (kind job bits p q t : ℕ) → number_at s at ≡ Ok (kind, p)
+      → number_at s p ≡ Ok (job, q) → number_at s q ≡ Ok (bits, t) → is_kind kind ≡ true → eqb job 0 ≡ false
+      → size_fits limit kind bits ≡ true → body_at s kind job bits t ≡ Ok e → ReadIs limit s at e
   unfolding body_at
   from_body e kind job bits p q t n₁ n₂ n₃ fk fj fs h =
       let x = no_of (ltb (length s) (t + bytes_for bits)) _ Cut e h in
@@ -170,33 +169,33 @@ module _ (limit : ℕ) (s : List ℕ) (at : ℕ) (b : AllBytes s) where
       let z : record { kind = kind; job = job; bits = bits; body = t; next = t + bytes_for bits } ≡ e = cc y.1 in
       subst (λ (w : Envelope). ReadIs limit s at w) z r
 
-  from_size : (e : Envelope) (kind job bits p q t : ℕ) → number_at s at ≡ num.Value kind p
-      → number_at s p ≡ num.Value job q → number_at s q ≡ num.Value bits t → is_kind kind ≡ true → eqb job 0 ≡ false
-      → size_at limit s kind job bits t ≡ Is e → ReadIs limit s at e
+  from_size : (e : Envelope) (kind job bits p q t : ℕ) → number_at s at ≡ Ok (kind, p)
+      → number_at s p ≡ Ok (job, q) → number_at s q ≡ Ok (bits, t) → is_kind kind ≡ true → eqb job 0 ≡ false
+      → size_at limit s kind job bits t ≡ Ok e → ReadIs limit s at e
   unfolding size_at
   from_size e kind job bits p q t n₁ n₂ n₃ fk fj h =
       let x = yes_of (size_fits limit kind bits) _ Size e h in
       from_body e kind job bits p q t n₁ n₂ n₃ fk fj x.0 x.1
 
-  from_job : (e : Envelope) (kind job p q : ℕ) → number_at s at ≡ num.Value kind p → number_at s p ≡ num.Value job q
-      → is_kind kind ≡ true → job_at limit s kind job q ≡ Is e → ReadIs limit s at e
+  from_job : (e : Envelope) (kind job p q : ℕ) → number_at s at ≡ Ok (kind, p) → number_at s p ≡ Ok (job, q)
+      → is_kind kind ≡ true → job_at limit s kind job q ≡ Ok e → ReadIs limit s at e
   unfolding job_at
   from_job e kind job p q n₁ n₂ fk h =
       let x = no_of (eqb job 0) _ Groups e h in
       via (number_at s q) (size_at limit s kind job) e (ReadIs limit s at e) (λ (bits t : ℕ)
-      (n₃ : number_at s q ≡ num.Value bits t) (k : size_at limit s kind job bits t ≡ Is e). from_size e kind job
+      (n₃ : number_at s q ≡ Ok (bits, t)) (k : size_at limit s kind job bits t ≡ Ok e). from_size e kind job
       bits p q t n₁ n₂ n₃ fk x.0 k) x.1
 
-  from_kind : (e : Envelope) (kind p : ℕ) → number_at s at ≡ num.Value kind p → kind_at limit s kind p ≡ Is e → ReadIs limit s at e
+  from_kind : (e : Envelope) (kind p : ℕ) → number_at s at ≡ Ok (kind, p) → kind_at limit s kind p ≡ Ok e → ReadIs limit s at e
   unfolding kind_at
   from_kind e kind p n₁ h =
       let x = yes_of (is_kind kind) _ Kind e h in
       via (number_at s p) (job_at limit s kind) e (ReadIs limit s at e) (λ (job q : ℕ)
-      (n₂ : number_at s p ≡ num.Value job q) (k : job_at limit s kind job q ≡ Is e). from_job e kind job p q n₁
+      (n₂ : number_at s p ≡ Ok (job, q)) (k : job_at limit s kind job q ≡ Ok e). from_job e kind job p q n₁
       n₂ x.0 k) x.1
 
-  pub read_written : (e : Envelope) → envelope_at limit s at ≡ Is e → ReadIs limit s at e
+  pub read_written : (e : Envelope) → envelope_at limit s at ≡ Ok e → ReadIs limit s at e
   unfolding envelope_at
   read_written e h =
       via (number_at s at) (kind_at limit s) e (ReadIs limit s at e) (λ (kind p : ℕ)
-      (n₁ : number_at s at ≡ num.Value kind p) (k : kind_at limit s kind p ≡ Is e). from_kind e kind p n₁ k) h
+      (n₁ : number_at s at ≡ Ok (kind, p)) (k : kind_at limit s kind p ≡ Ok e). from_kind e kind p n₁ k) h

@@ -13,10 +13,12 @@ use borrow.Author.Tests.{leb-true, le-ltb, lt-ltb, not-true}
 use Rattle.words.proofs.Laws.{both_left, both_right}
 use Rattle.envelope.specs.Numbers.{groups, number, Put}
 use Rattle.envelope.specs.Envelopes.{is_kind, size_fits, bytes_for, is_padded, most_bits, least_room, Content, content, bytes_of, fits, left, write_envelope, Fit, largest}
-use Rattle.envelope.specs.declared.EnvelopeWritten.TheVariants.{Bytes, Room, Shape}
 use Rattle.envelope.proofs.Numbers.{groups_one, groups_more}
 use Rattle.envelope.proofs.Fields.{padded_none}
 use Rattle.envelope.proofs.Puts.{groups_pos, put_then}
+use Rattle.std.specs.Prelude.{Err, Ok}
+use Rattle.words.specs.declared.Unwritten.TheVariants.{Room}
+use Rattle.words.specs.declared.Unwritten.TheVariants.{Shape}
 
 -- ---- numbers
 
@@ -150,19 +152,19 @@ largest_fits = lit≤ tt
 -- ---- the writer
 
 module _ (room limit : ℕ) (out : List ℕ) (kind job bits : ℕ) (body : List ℕ) where
-  pub no_room : length out < room → left Room out ≡ write_envelope room limit out kind job bits body
+  pub no_room : length out < room → left (Err Room) out ≡ write_envelope room limit out kind job bits body
   unfolding write_envelope
   no_room h = rw (lt-ltb (length out) room h)
 
   pub no_shape : (t : Bool) → room ≤ length out → t ≡ fits limit kind job bits body → t ≡ false
-      → left Shape out ≡ write_envelope room limit out kind job bits body
+      → left (Err Shape) out ≡ write_envelope room limit out kind job bits body
   unfolding write_envelope
   no_shape t h p q = rw (le-ltb (length out) room h, ← p, q)
 
   pub is_written : (z : List ℕ) (end : ℕ) (t : Bool) → room ≤ length out → t ≡ fits limit kind job bits body
       → t ≡ true → length (bytes_of (content kind job bits body)) ≤ length out
       → Put out z 0 end (bytes_of (content kind job bits body))
-      → left (Bytes end) z ≡ write_envelope room limit out kind job bits body
+      → left (Ok end) z ≡ write_envelope room limit out kind job bits body
   unfolding write_envelope
   is_written z end t h p q l r =
       let n : 0 + length (bytes_of (content kind job bits body)) ≡ length (bytes_of (content kind job bits body)) = omega arith in

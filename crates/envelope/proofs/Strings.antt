@@ -15,12 +15,11 @@ use Rattle.envelope.specs.Envelopes.{envelope_at, Content, content_of, bytes_of,
 use Rattle.envelope.specs.Strings.{string_of, all_placed, AllFit, none, more, ended, stopped, Walk, ends, past, on_read, walk_from_of, walk, Told, whole, broken}
 use Rattle.envelope.specs.declared.EnvelopeRefusal.{EnvelopeRefusal}
 use Rattle.envelope.specs.declared.Envelope.{Envelope}
-use Rattle.envelope.specs.declared.EnvelopeRead.{EnvelopeRead}
-use Rattle.envelope.specs.declared.EnvelopeRead.TheVariants.{Is, Refused}
 use Rattle.envelope.proofs.Numbers.{AllBytes}
 use Rattle.envelope.proofs.Puts.{groups_pos}
 use Rattle.envelope.proofs.Sizes.{length_bytes}
 use Rattle.envelope.proofs.RoundTrip.{ReadIs, written_read, read_written}
+use Rattle.std.specs.Prelude.{Err, Ok, Result}
 
 -- ---- the clauses of a walk
 
@@ -91,7 +90,7 @@ at_end limit s at h =
     let w : Told limit s at (ends (ended (at + 0))) = whole [] none (drop_of_length-le s h) in
     rw (add-zero at) at w
 
-at_refusal : (limit : ℕ) (s : List ℕ) (at : ℕ) (r : EnvelopeRefusal) → at < length s → envelope_at limit s at ≡ Refused r
+at_refusal : (limit : ℕ) (s : List ℕ) (at : ℕ) (r : EnvelopeRefusal) → at < length s → envelope_at limit s at ≡ Err r
     → Told limit s at (ends (stopped r at))
 unfolding string_of all_placed
 at_refusal limit s at r h e =
@@ -118,12 +117,12 @@ at_envelope limit s at e w r t =
     subst (λ (x : Envelope). Told limit s at (past x w)) (sym r.place)
     (after limit s at (content_of s e) w r.fit d (subst (λ (k : ℕ). Told limit s k w) n t))
 
-at_answer : (limit : ℕ) (s : List ℕ) → AllBytes s → (f at : ℕ) (z : EnvelopeRead) → envelope_at limit s at ≡ z
+at_answer : (limit : ℕ) (s : List ℕ) → AllBytes s → (f at : ℕ) (z : Result Envelope EnvelopeRefusal) → envelope_at limit s at ≡ z
     → at < length s → ((e : Envelope) → ReadIs limit s at e → Told limit s e.next (walk_from_of limit s f e.next))
     → Told limit s at (on_read z at (λ (e : Envelope). walk_from_of limit s f e.next))
-at_answer limit s b f at (Is e) p h k = let r = read_written limit s at b e p in at_envelope limit s at e
+at_answer limit s b f at (Ok e) p h k = let r = read_written limit s at b e p in at_envelope limit s at e
     (walk_from_of limit s f e.next) r (k e r)
-at_answer limit s b f at (Refused r) p h k = at_refusal limit s at r h p
+at_answer limit s b f at (Err r) p h k = at_refusal limit s at r h p
 
 either_end : (limit : ℕ) (s : List ℕ) (f at : ℕ) (t : Bool) → leb (length s) at ≡ t
     → (at < length s → Told limit s at (on_read (envelope_at limit s at) at (λ (e : Envelope). walk_from_of limit s f e.next)))

@@ -1,17 +1,14 @@
 -- Document 01, "The broker envelope", and the refusals 20 to 23 of "The numbers a refusal carries".
 -- The largest bit count is a parameter, `limit`.
-use Rattle.std.specs.Prelude.{ℕ, ◌+◌, ◌-◌, ◌*◌, ◌/◌, ◌%◌, ◌^◌, ◌<◌, ◌≡◌, Bool, true, false, cond, ◌&&◌, ◌||◌, not, List, ◌++◌, length, take, drop, get_or, leb, ltb, eqb}
+use Rattle.std.specs.Prelude.{ℕ, ◌+◌, ◌-◌, ◌*◌, ◌/◌, ◌%◌, ◌^◌, ◌<◌, ◌≡◌, Bool, true, false, cond, ◌&&◌, ◌||◌, not, List, ◌++◌, length, take, drop, get_or, leb, ltb, eqb, Err, Ok, Result}
 use Rattle.words.specs.Limits.{message_bits, buffer_bytes}
+use Rattle.words.specs.Readings.{then}
 use Rattle.envelope.specs.Numbers.{number, number_at}
 use Rattle.envelope.specs.declared.EnvelopeRefusal.{EnvelopeRefusal}
 use Rattle.envelope.specs.declared.EnvelopeRefusal.TheVariants.{Cut, Groups, Kind, Size}
-use Rattle.envelope.specs.declared.Number.{Number}
-use Rattle.envelope.specs.declared.Number.TheVariants as num
 use Rattle.envelope.specs.declared.Envelope.{Envelope}
-use Rattle.envelope.specs.declared.EnvelopeRead.{EnvelopeRead}
-use Rattle.envelope.specs.declared.EnvelopeRead.TheVariants.{Is, Refused}
-use Rattle.envelope.specs.declared.EnvelopeWritten.{EnvelopeWritten}
-use Rattle.envelope.specs.declared.EnvelopeWritten.TheVariants.{Bytes, Room, Shape}
+use Rattle.words.specs.declared.Unwritten.{Unwritten}
+use Rattle.words.specs.declared.Unwritten.TheVariants.{Room, Shape}
 
 -- "The numbers a refusal carries"
 abbrev pub refusal_number : EnvelopeRefusal → ℕ
@@ -19,11 +16,6 @@ refusal_number Cut = 20
 refusal_number Groups = 21
 refusal_number Kind = 22
 refusal_number Size = 23
-
-abbrev pub written_number : EnvelopeWritten → ℕ
-written_number (Bytes n) = 0
-written_number Room = 1
-written_number Shape = 2
 
 -- "Sizes": the bits of a message, at most; the bytes of a lent output buffer, at least
 abbrev pub most_bits : ℕ
@@ -59,34 +51,24 @@ is_padded bits body = eqb (get_or body (bytes_for bits - 1) 0 % 2 ^ (8 * bytes_f
 
 -- ---- reading, in the order kind number (20, 21, 22), job (20, 21), bit count (20, 21, 23), body (20, 23)
 
--- a number and the position after it, or its refusal unchanged
-abbrev pub then : Number → (ℕ → ℕ → EnvelopeRead) → EnvelopeRead
-then (num.Value v next) k = k v next
-then (num.Refused r) k = Refused r
-
-unfoldable pub body_at : List ℕ → ℕ → ℕ → ℕ → ℕ → EnvelopeRead
+unfoldable pub body_at : List ℕ → ℕ → ℕ → ℕ → ℕ → Result Envelope EnvelopeRefusal
 body_at s kind job bits at =
-    cond (ltb (length s) (at + bytes_for bits)) (Refused Cut)
-    (cond (is_padded bits (drop at s)) (Is (record { kind = kind; job = job; bits = bits; body = at; next = at + bytes_for bits }))
-    (Refused Size))
+    cond (ltb (length s) (at + bytes_for bits)) (Err Cut)
+    (cond (is_padded bits (drop at s)) (Ok (record { kind = kind; job = job; bits = bits; body = at; next = at + bytes_for bits }))
+    (Err Size))
 
-unfoldable pub size_at : ℕ → List ℕ → ℕ → ℕ → ℕ → ℕ → EnvelopeRead
-size_at limit s kind job bits at = cond (size_fits limit kind bits) (body_at s kind job bits at) (Refused Size)
+unfoldable pub size_at : ℕ → List ℕ → ℕ → ℕ → ℕ → ℕ → Result Envelope EnvelopeRefusal
+size_at limit s kind job bits at = cond (size_fits limit kind bits) (body_at s kind job bits at) (Err Size)
 
-unfoldable pub job_at : ℕ → List ℕ → ℕ → ℕ → ℕ → EnvelopeRead
-job_at limit s kind job at = cond (eqb job 0) (Refused Groups) (then (number_at s at) (size_at limit s kind job))
+unfoldable pub job_at : ℕ → List ℕ → ℕ → ℕ → ℕ → Result Envelope EnvelopeRefusal
+job_at limit s kind job at = cond (eqb job 0) (Err Groups) (then (number_at s at) (size_at limit s kind job))
 
-unfoldable pub kind_at : ℕ → List ℕ → ℕ → ℕ → EnvelopeRead
-kind_at limit s kind at = cond (is_kind kind) (then (number_at s at) (job_at limit s kind)) (Refused Kind)
+unfoldable pub kind_at : ℕ → List ℕ → ℕ → ℕ → Result Envelope EnvelopeRefusal
+kind_at limit s kind at = cond (is_kind kind) (then (number_at s at) (job_at limit s kind)) (Err Kind)
 
 -- the envelope that begins at a position
-unfoldable pub envelope_at : ℕ → List ℕ → ℕ → EnvelopeRead
+unfoldable pub envelope_at : ℕ → List ℕ → ℕ → Result Envelope EnvelopeRefusal
 envelope_at limit s at = then (number_at s at) (kind_at limit s)
-
--- a number's refusal as the envelope's, for the code's `else`; the only value that comes there is no kind
-abbrev pub refused_by : Number → EnvelopeRead
-refused_by (num.Value v next) = Refused Kind
-refused_by (num.Refused r) = Refused r
 
 -- ---- writing
 
@@ -112,21 +94,21 @@ fits limit kind job bits body =
 
 -- the answer and the buffer after it
 pub record Left : Type 0 where
-  pub answer : EnvelopeWritten
+  pub answer : Result ℕ Unwritten
   pub bytes : List ℕ
 
-abbrev pub left : EnvelopeWritten → List ℕ → Left
+abbrev pub left : Result ℕ Unwritten → List ℕ → Left
 left w s = record { answer = w; bytes = s }
 
 -- bytes put at the front of a buffer, the rest of it as it was
 abbrev pub wrote : List ℕ → List ℕ → Left
-wrote bs out = left (Bytes (length bs)) (bs ++ drop (length bs) out)
+wrote bs out = left (Ok (length bs)) (bs ++ drop (length bs) out)
 
 -- ROOM, then SHAPE ("Order for calls"), and the buffer as it was; or the envelope
 unfoldable pub write_envelope : ℕ → ℕ → List ℕ → ℕ → ℕ → ℕ → List ℕ → Left
 write_envelope room limit out kind job bits body =
-    cond (ltb (length out) room) (left Room out)
-    (cond (fits limit kind job bits body) (wrote (bytes_of (content kind job bits body)) out) (left Shape out))
+    cond (ltb (length out) room) (left (Err Room) out)
+    (cond (fits limit kind job bits body) (wrote (bytes_of (content kind job bits body)) out) (left (Err Shape) out))
 
 -- ---- what the theorems speak of
 
@@ -153,9 +135,9 @@ abbrev pub content_of : List ℕ → Envelope → Content
 content_of s e = content e.kind e.job e.bits (drop e.body s)
 
 -- an answer with its positions counted from further back
-abbrev pub moved : ℕ → EnvelopeRead → EnvelopeRead
-moved by (Is e) = Is (record { kind = e.kind; job = e.job; bits = e.bits; body = by + e.body; next = by + e.next })
-moved by (Refused r) = Refused r
+abbrev pub moved : ℕ → Result Envelope EnvelopeRefusal → Result Envelope EnvelopeRefusal
+moved by (Ok e) = Ok (record { kind = e.kind; job = e.job; bits = e.bits; body = by + e.body; next = by + e.next })
+moved by (Err r) = Err r
 
 -- the bytes of the largest envelope: a kind, a job of ten groups, the limit and its body
 unfoldable pub largest : ℕ → ℕ

@@ -1,10 +1,8 @@
 -- A string of envelopes: one after the other, to its end or to the first that is refused.
-use Rattle.std.specs.Prelude.{ℕ, zero, suc, ◌+◌, ◌<◌, ◌≡◌, cond, List, [], ◌∷◌, ◌++◌, map, length, drop, leb}
+use Rattle.std.specs.Prelude.{ℕ, zero, suc, ◌+◌, ◌<◌, ◌≡◌, cond, List, [], ◌∷◌, ◌++◌, map, length, drop, leb, Err, Ok, Result}
 use Rattle.envelope.specs.Envelopes.{Content, content_of, bytes_of, Fit, placed, envelope_at}
 use Rattle.envelope.specs.declared.EnvelopeRefusal.{EnvelopeRefusal}
 use Rattle.envelope.specs.declared.Envelope.{Envelope}
-use Rattle.envelope.specs.declared.EnvelopeRead.{EnvelopeRead}
-use Rattle.envelope.specs.declared.EnvelopeRead.TheVariants.{Is, Refused}
 
 -- ---- written
 
@@ -41,9 +39,9 @@ abbrev pub past : Envelope → Walk → Walk
 past e w = record { envelopes = e ∷ w.envelopes; ending = w.ending }
 
 -- a refusal stops; an envelope is followed by what stands at its next position
-abbrev pub on_read : EnvelopeRead → ℕ → (Envelope → Walk) → Walk
-on_read (Is e) at k = past e (k e)
-on_read (Refused r) at k = ends (stopped r at)
+abbrev pub on_read : Result Envelope EnvelopeRefusal → ℕ → (Envelope → Walk) → Walk
+on_read (Ok e) at k = past e (k e)
+on_read (Err r) at k = ends (stopped r at)
 
 -- the envelopes from a position on, f of them at most
 unfoldable pub walk_from_of : ℕ → List ℕ → ℕ → ℕ → Walk
@@ -63,4 +61,4 @@ contents_of s es = map (λ (e : Envelope). content_of s e) es
 
 pub data Told (limit : ℕ) (s : List ℕ) (at : ℕ) : Walk → Type 0 where
   whole : (cs : List Content) → AllFit limit cs → drop at s ≡ string_of cs → Told limit s at (record { envelopes = all_placed at cs; ending = ended (at + length (string_of cs)) })
-  broken : (cs : List Content) (t : List ℕ) (r : EnvelopeRefusal) → AllFit limit cs → drop at s ≡ string_of cs ++ t → at + length (string_of cs) < length s → envelope_at limit s (at + length (string_of cs)) ≡ Refused r → Told limit s at (record { envelopes = all_placed at cs; ending = stopped r (at + length (string_of cs)) })
+  broken : (cs : List Content) (t : List ℕ) (r : EnvelopeRefusal) → AllFit limit cs → drop at s ≡ string_of cs ++ t → at + length (string_of cs) < length s → envelope_at limit s (at + length (string_of cs)) ≡ Err r → Told limit s at (record { envelopes = all_placed at cs; ending = stopped r (at + length (string_of cs)) })

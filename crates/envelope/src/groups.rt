@@ -2,68 +2,67 @@
 ghost use Rattle.std.specs.Prelude.{◌≡◌};
 ghost use Rattle.envelope.specs.Numbers.{number_at};
 
-use crate::{EnvelopeRefusal, Number, wide};
+use crate::{EnvelopeRefusal, wide};
+
+// The groups that may be followed by another: 64 bits are nine groups of seven, and one bit.
+const FOLLOWED: usize = 9;
 
 // The number at a position, of any length. Nine groups may be followed by another; the tenth has one bit.
-pub(crate) fn gathered(s: &[u8], at: usize) -> Number
+pub(crate) fn gathered(s: &[u8], at: usize) -> Result<(u64, usize), EnvelopeRefusal>
     ensures { result ≡ number_at s.now at }
 {
     let mut v: u64 = 0;
     let mut w: u64 = 1;
     let mut p = at;
-    let mut i: usize = 0;
-    while i < Number::FOLLOWED {
+    for i in 0..FOLLOWED {
         if s.len() <= p {
-            return Number::Refused(EnvelopeRefusal::Cut);
+            return Err(EnvelopeRefusal::Cut);
         }
         let b = wide(s[p]);
         if b < 128 {
             if 0 < b {
-                return Number::Value(v + b * w, p + 1);
+                return Ok((v + b * w, p + 1));
             }
             if 0 < i {
-                return Number::Refused(EnvelopeRefusal::Groups);
+                return Err(EnvelopeRefusal::Groups);
             }
-            return Number::Value(0, p + 1);
+            return Ok((0, p + 1));
         }
-        v = v + (b - 128) * w;
-        w = w * 128;
-        p = p + 1;
-        i += 1;
+        v += (b - 128) * w;
+        w *= 128;
+        p += 1;
     }
     if s.len() <= p {
-        return Number::Refused(EnvelopeRefusal::Cut);
+        return Err(EnvelopeRefusal::Cut);
     }
     let b = wide(s[p]);
-    if 1 < b {
-        return Number::Refused(EnvelopeRefusal::Groups);
+    if b != 1 {
+        return Err(EnvelopeRefusal::Groups);
     }
-    if b == 0 {
-        return Number::Refused(EnvelopeRefusal::Groups);
-    }
-    Number::Value(v + w, p + 1)
+    Ok((v + w, p + 1))
 }
 
 // The number at a position. Most numbers are one byte or two: a bit count is never more.
-pub fn read_number(s: &[u8], at: usize) -> Number
+#[tactic(auto, using(crate::proofs::Numbers::one_byte, crate::proofs::Numbers::one_cut, crate::proofs::Numbers::one_longer))]
+pub fn read_number(s: &[u8], at: usize) -> Result<(u64, usize), EnvelopeRefusal>
     ensures { result ≡ number_at s.now at }
 {
     if s.len() <= at {
-        return Number::Refused(EnvelopeRefusal::Cut);
+        return Err(EnvelopeRefusal::Cut);
     }
     let b = wide(s[at]);
     if b < 128 {
-        return Number::Value(b, at + 1);
+        return Ok((b, at + 1));
     }
     if s.len() - at < 2 {
-        return Number::Refused(EnvelopeRefusal::Cut);
+        return Err(EnvelopeRefusal::Cut);
     }
     let c = wide(s[at + 1]);
     if c < 1 {
-        return Number::Refused(EnvelopeRefusal::Groups);
+        return Err(EnvelopeRefusal::Groups);
     }
     if c < 128 {
-        return Number::Value(b - 128 + c * 128, at + 2);
+        return Ok((b - 128 + c * 128, at + 2));
     }
     gathered(s, at)
 }

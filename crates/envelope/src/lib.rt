@@ -3,7 +3,7 @@
 #![tactic(auto)]
 
 ghost use Rattle.std.specs.Prelude.{◌≡◌};
-ghost use Rattle.envelope.specs.Envelopes.{refusal_number, written_number};
+ghost use Rattle.envelope.specs.Envelopes.{refusal_number};
 
 pub mod groups; // groups.rt: the number at a position
 pub mod reading; // reading.rt: the envelope at a position
@@ -39,18 +39,6 @@ impl EnvelopeRefusal {
     }
 }
 
-// A number in groups, and the position after it.
-#[derive(Drop)]
-pub enum Number {
-    Value(u64, usize),
-    Refused(EnvelopeRefusal),
-}
-
-impl Number {
-    // The groups that may be followed by another: 64 bits are nine groups of seven, and one bit.
-    pub const FOLLOWED: usize = 9;
-}
-
 // An envelope in lent bytes: what it says, where its body begins, and where the next envelope begins.
 #[derive(Clone, Copy)]
 pub struct Envelope {
@@ -70,34 +58,6 @@ impl Envelope {
     pub const REFUSAL: u64 = 3;
 
     pub const REFUSAL_BITS: u64 = 8;
-}
-
-// What is read at a position.
-#[derive(Drop)]
-pub enum EnvelopeRead {
-    Is(Envelope),
-    Refused(EnvelopeRefusal),
-}
-
-// What the writer answers: the bytes that it took of the buffer, or why it took none.
-#[derive(Drop)]
-pub enum EnvelopeWritten {
-    Bytes(usize),
-    Room,
-    Shape,
-}
-
-impl EnvelopeWritten {
-    // Document 01's number of a refusal, and 0 for none.
-    pub fn number(self) -> u64
-        ensures { result ≡ written_number self }
-    {
-        match self {
-            EnvelopeWritten::Bytes(_) => 0,
-            EnvelopeWritten::Room => Limit::ROOM,
-            EnvelopeWritten::Shape => Limit::SHAPE,
-        }
-    }
 }
 
 fn wide(x: u8) -> u64

@@ -2,15 +2,14 @@
 ghost use Rattle.std.specs.Prelude.{◌≡◌, ◌+◌, ◌≤◌, length, take};
 ghost use Rattle.envelope.specs.Numbers.{number, Put};
 
-// The first n bytes of a slice.
+// The first n bytes of a slice, one by one: the archive is to need nothing of C but memset, and copies of slices may become calls of its memcpy.
+// (`fragments` has a loop of its own: with its `requires` this is no function for another crate.)
 pub(crate) fn put_bytes(out: &mut [u8], at: usize, src: &[u8], n: usize) -> usize
     requires { (at + n ≤ length out.old) × (n ≤ length src.now) }
     ensures { Put out.old out.new at result (take n src.now) }
 {
-    let mut i: usize = 0;
-    while i < n {
+    for i in 0..n {
         out[at + i] = src[i];
-        i += 1;
     }
     at + n
 }
@@ -24,7 +23,7 @@ pub(crate) fn put_number(out: &mut [u8], at: usize, n: u64) -> usize
     let mut p = at;
     while 128 <= v {
         out[p] = (128 + v % 128) as u8;
-        v = v / 128;
+        v /= 128;
         p += 1;
     }
     out[p] = v as u8;

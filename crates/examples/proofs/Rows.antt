@@ -12,9 +12,9 @@ use Rattle.words.proofs.Laws.{both_left, both_right}
 use Rattle.bits.specs.Bits.{bits_of}
 use Rattle.fields.specs.Fields.{length_at}
 use Rattle.fields.specs.Encodings.{length_bits}
-use Rattle.fields.specs.declared.Field.{Field}
-use Rattle.fields.specs.declared.Field.TheVariants.{Value, Refused}
-use Rattle.examples.specs.Examples.{value, a_length, same, are, field_says, holds}
+use Rattle.examples.specs.Examples.{a_length, same, are, field_says, holds}
+use Rattle.std.specs.Prelude.{Err, Ok}
+use Rattle.fields.specs.Fields.{Reading}
 
 never : {A : Type 0} → ◌≡◌ {A = ℕ} 0 1 → A
 never z = absurd (omega arith)
@@ -34,15 +34,15 @@ are_is bits n bytes e =
     (both_right (eqb (length bits) n && eqb (length bytes) ((n + 7) / 8))
     (same (bits ++ replicate (8 * length bytes - n) 0) (bits_of bytes)) e)
 
-pub says_is : (f : Field) (v n : ℕ) → field_says f (value v n) ≡ true → f ≡ Value v n
-says_is (Value w next) v n e =
+pub says_is : (f : Reading ℕ) (v n : ℕ) → field_says f (Ok (v, n)) ≡ true → f ≡ Ok (v, n)
+says_is (Ok (w, next)) v n e =
     rw (eqb-true w v (both_left (eqb w v) (eqb next n) e), eqb-true next n (both_right (eqb w v) (eqb next n) e))
-says_is (Refused r) v n e = never (cc)
+says_is (Err r) v n e = never (cc)
 
 -- a row of a length: its bytes are read as the value and the count of bits, and the value is written as the bytes
-pub length_row : (bytes : List ℕ) (v n : ℕ) → holds (a_length bytes (value v n)) ≡ true
-    → (length_at (bits_of bytes) 0 ≡ Value v n) × (length_bits v ++ replicate (8 * length bytes - n) 0 ≡ bits_of bytes)
+pub length_row : (bytes : List ℕ) (v n : ℕ) → holds (a_length bytes (Ok (v, n))) ≡ true
+    → (length_at (bits_of bytes) 0 ≡ Ok (v, n)) × (length_bits v ++ replicate (8 * length bytes - n) 0 ≡ bits_of bytes)
 length_row bytes v n e =
-    let reads = field_says (length_at (bits_of bytes) 0) (value v n) in
+    let reads = field_says (length_at (bits_of bytes) 0) (Ok (v, n)) in
     let writes = are (length_bits v) n bytes in
     (says_is (length_at (bits_of bytes) 0) v n (both_left reads writes e), are_is (length_bits v) n bytes (both_right reads writes e))

@@ -1,25 +1,21 @@
 -- Document 01, "Examples by hand", the rows marked P, and the two lengths of document 02, E3: one list. A subject is a constructor of Row
 -- and a line of holds.
-use Rattle.std.specs.Prelude.{ℕ, ◌+◌, ◌-◌, ◌*◌, ◌/◌, Bool, true, false, ◌&&◌, List, [], ◌∷◌, ◌++◌, eqb, length, replicate}
+use Rattle.std.specs.Prelude.{ℕ, ◌+◌, ◌-◌, ◌*◌, ◌/◌, Bool, true, false, ◌&&◌, List, [], ◌∷◌, ◌++◌, eqb, length, replicate, Err, Ok, Result}
 use Rattle.bits.specs.Bits.{bits_of}
 use Rattle.fields.specs.Fields.{length_at}
 use Rattle.fields.specs.Encodings.{length_bits}
 use Rattle.fields.specs.Refusals.{number_of}
 use Rattle.elements.specs.Arguments.{code_fits_of, digits_bits, code_at, characters_in, characters_bits, sized_fits, sized_bits, free_text_at, designation_at, facility_fits, facility_bits, facility_at, atis_fits, atis_at}
-use Rattle.elements.specs.declared.values.Step.{Step}
-use Rattle.elements.specs.declared.values.Step.TheVariants as step
 use Rattle.envelope.specs.Envelopes.{envelope_at, most_bits, content_of, bytes_of}
-use Rattle.envelope.specs.declared.EnvelopeRead.{EnvelopeRead}
-use Rattle.envelope.specs.declared.EnvelopeRead.TheVariants as envelope
 use Rattle.envelope.specs.Examples.{answers, reads}
 use Rattle.envelope.specs.Examples.{Row as EnvelopeRow}
-use Rattle.fields.specs.declared.Field.{Field}
-use Rattle.fields.specs.declared.Field.TheVariants.{Value, Refused}
+use Rattle.fields.specs.Fields.{Reading}
+use Rattle.envelope.specs.declared.EnvelopeRefusal.{EnvelopeRefusal}
+use Rattle.envelope.specs.declared.Envelope.{Envelope}
 
 -- what bytes say, read from their first bit: a value in so many bits, or the number of the refusal
-pub data Says (A : Type 0) : Type 0 where
-  value : A → ℕ → Says A
-  refused : ℕ → Says A
+abbrev pub Says : Type 0
+Says = Result (ℕ × ℕ) ℕ
 
 -- arguments that are characters
 pub data Text : Type 0 where
@@ -31,7 +27,7 @@ pub data Text : Type 0 where
 -- bytes and what they say, by their subject. A code: its digits, how many bits, and the bytes; characters the same; a facility designation
 -- that is refused: the bytes, and the number
 pub data Row : Type 0 where
-  a_length : List ℕ → Says ℕ → Row
+  a_length : List ℕ → Says → Row
   a_code : List ℕ → ℕ → List ℕ → Row
   a_text : Text → List ℕ → ℕ → List ℕ → Row
   no_designation : List ℕ → ℕ → Row
@@ -39,12 +35,12 @@ pub data Row : Type 0 where
 
 abbrev pub examples : List Row
 examples =
-    a_length (0x7F ∷ []) (value 127 8) ∷
-    a_length (0x80 ∷ 0x80 ∷ []) (value 128 16) ∷
-    a_length (0x88 ∷ 0x00 ∷ []) (value 2048 16) ∷
-    a_length (0x88 ∷ 0x01 ∷ []) (value 2049 16) ∷
-    a_length (0xBF ∷ 0xFF ∷ []) (value 16383 16) ∷
-    a_length (0x80 ∷ 0x7F ∷ []) (refused 13) ∷
+    a_length (0x7F ∷ []) (Ok (127, 8)) ∷
+    a_length (0x80 ∷ 0x80 ∷ []) (Ok (128, 16)) ∷
+    a_length (0x88 ∷ 0x00 ∷ []) (Ok (2048, 16)) ∷
+    a_length (0x88 ∷ 0x01 ∷ []) (Ok (2049, 16)) ∷
+    a_length (0xBF ∷ 0xFF ∷ []) (Ok (16383, 16)) ∷
+    a_length (0x80 ∷ 0x7F ∷ []) (Err 13) ∷
     a_code (7 ∷ 5 ∷ 0 ∷ 0 ∷ []) 12 (0xF4 ∷ 0x00 ∷ []) ∷
     a_text designation (65 ∷ 66 ∷ 67 ∷ 68 ∷ []) 31 (0x10 ∷ 0x61 ∷ 0x43 ∷ 0x88 ∷ []) ∷
     no_designation (0xA0 ∷ []) 11 ∷
@@ -70,16 +66,16 @@ are bits n bytes =
     eqb (length bits) n && eqb (length bytes) ((n + 7) / 8) && same (bits ++ replicate (8 * length bytes - n) 0) (bits_of bytes)
 
 -- a field says a value in so many bits, or is refused with a number
-abbrev pub field_says : Field → Says ℕ → Bool
-field_says (Value v next) (value w n) = eqb v w && eqb next n
-field_says (Value v next) (refused r) = false
-field_says (Refused e) (value w n) = false
-field_says (Refused e) (refused r) = eqb (number_of e.fault) r
+abbrev pub field_says : Reading ℕ → Says → Bool
+field_says (Ok (v, next)) (Ok (w, n)) = eqb v w && eqb next n
+field_says (Ok (v, next)) (Err r) = false
+field_says (Err e) (Ok (w, n)) = false
+field_says (Err e) (Err r) = eqb (number_of e.fault) r
 
 -- the bits of a value are the bytes that say it; a refusal has none
-abbrev pub written : {A : Type 0} → (A → List ℕ) → List ℕ → Says A → Bool
-written bitsOfIt bytes (value v n) = are (bitsOfIt v) n bytes
-written bitsOfIt bytes (refused r) = true
+abbrev pub written : (ℕ → List ℕ) → List ℕ → Says → Bool
+written bits_of_it bytes (Ok (v, n)) = are (bits_of_it v) n bytes
+written bits_of_it bytes (Err r) = true
 
 -- which characters such an argument may have, its bits, and what reading finds
 abbrev pub text_fits : Text → List ℕ → Bool
@@ -94,7 +90,7 @@ text_bits facility t = facility_bits t
 text_bits free_text t = sized_bits 1 256 t
 text_bits atis_code t = characters_bits t
 
-abbrev pub text_at : Text → List ℕ → Field
+abbrev pub text_at : Text → List ℕ → Reading ℕ
 text_at designation l = designation_at l 0
 text_at facility l = facility_at l 0
 text_at free_text l = free_text_at l 0
@@ -102,23 +98,24 @@ text_at atis_code l = atis_at l 0
 
 -- the characters end with the argument
 abbrev pub text_says : Text → List ℕ → List ℕ → ℕ → Bool
-text_says x l t n = field_says (text_at x l) (value (length t) n) && same (characters_in l (n - 7 * length t) (length t)) t
+text_says x l t n = field_says (text_at x l) (Ok (length t, n)) && same (characters_in l (n - 7 * length t) (length t)) t
 
-abbrev pub ends : Step → ℕ → Bool
-ends (step.Next next) n = eqb next n
-ends (step.Refused r) n = false
+-- a code says its digits, and ends there
+abbrev pub code_says : Reading (List ℕ) → List ℕ → ℕ → Bool
+code_says (Ok (ds, next)) digits n = eqb next n && same ds digits
+code_says (Err r) digits n = false
 
-abbrev pub writes_back : EnvelopeRead → List ℕ → Bool
-writes_back (envelope.Is e) bytes = same (bytes_of (content_of bytes e)) bytes
-writes_back (envelope.Refused r) bytes = true
+abbrev pub writes_back : Result Envelope EnvelopeRefusal → List ℕ → Bool
+writes_back (Ok e) bytes = same (bytes_of (content_of bytes e)) bytes
+writes_back (Err r) bytes = true
 
 -- a row holds both ways: the bytes are read as what they say, and the value is written as the bytes
 abbrev pub holds : Row → Bool
 holds (a_length bytes says) = field_says (length_at (bits_of bytes) 0) says && written length_bits bytes says
 holds (a_code ds n bytes) =
-    code_fits_of ds && are (digits_bits ds) n bytes && ends (code_at (bits_of bytes) 0).step n && same (code_at (bits_of bytes) 0).digits ds
+    code_fits_of ds && are (digits_bits ds) n bytes && code_says (code_at (bits_of bytes) 0) ds n
 holds (a_text x t n bytes) = text_fits x t && are (text_bits x t) n bytes && text_says x (bits_of bytes) t n
-holds (no_designation bytes r) = field_says (designation_at (bits_of bytes) 0) (refused r)
+holds (no_designation bytes r) = field_says (designation_at (bits_of bytes) 0) (Err r)
 holds (an_envelope row) =
     answers (envelope_at most_bits row.bytes 0) row && writes_back (envelope_at most_bits row.bytes 0) row.bytes
 

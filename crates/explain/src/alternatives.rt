@@ -2,21 +2,15 @@
 use crate::forwards::walk_forward;
 use crate::messages::walk_message;
 use crate::rows::{accepted, refused, row};
-use apdu::{Apdu, Data, Decoded};
+use apdu::{ALL, Apdu, Data};
 use editions::Edition;
-use fields::Field;
-use kinds::Direction;
+use fields::{Reading, Refusal};
 use pdus::PduType;
-
-// The end of lent bytes: all of them.
-const ALL: usize = 18446744073709551615;
+use plain::sent_by;
 
 // An index behind its extension bit.
-fn walk_index(rt: &impl Print, s: &[u8], at: usize, name: &[u8], last: u64) -> Field {
-    let extension = row(rt, b"extension bit", at, fields::extension_bit(s, ALL, at));
-    let Field::Value(_, p) = extension else {
-        return extension;
-    };
+fn walk_index(rt: &impl Print, s: &[u8], at: usize, name: &[u8], last: u64) -> Reading<u64> {
+    let (_, p) = row(rt, b"extension bit", at, fields::extension_bit(s, ALL, at))?;
     row(rt, name, p, fields::whole(s, ALL, p, 0, last))
 }
 
@@ -30,16 +24,13 @@ fn walk_string(
     unit: usize,
     least: usize,
     most: usize,
-) -> Field {
-    let length = row(
+) -> Reading<u64> {
+    let (n, p) = row(
         rt,
         name,
         at,
         fields::length_within(s, ALL, at, least as u64, most as u64),
-    );
-    let Field::Value(n, p) = length else {
-        return length;
-    };
+    )?;
     row(
         rt,
         counted,
@@ -49,11 +40,8 @@ fn walk_string(
 }
 
 // An addition: its length in octets, and the octets, which are not looked at.
-fn walk_addition(rt: &impl Print, s: &[u8], at: usize) -> Field {
-    let length = row(rt, b"length of an addition", at, fields::length(s, ALL, at));
-    let Field::Value(n, p) = length else {
-        return length;
-    };
+fn walk_addition(rt: &impl Print, s: &[u8], at: usize) -> Reading<u64> {
+    let (n, p) = row(rt, b"length of an addition", at, fields::length(s, ALL, at))?;
     row(
         rt,
         b"addition",
@@ -63,45 +51,35 @@ fn walk_addition(rt: &impl Print, s: &[u8], at: usize) -> Field {
 }
 
 // So many additions, one after the other.
-fn walk_each(rt: &impl Print, s: &[u8], at: usize, count: u32) {
+fn walk_each(rt: &impl Print, s: &[u8], at: usize, count: u32) -> Result<(), Refusal> {
     let mut p = at;
-    let mut left = count;
-    while 0 < left {
-        let one = walk_addition(rt, s, p);
-        let Field::Value(_, next) = one else {
-            return;
-        };
+    for _ in 0..count {
+        let (_, next) = walk_addition(rt, s, p)?;
         p = next;
-        left -= 1;
     }
+    Ok(())
 }
 
 // What a later edition added: how many additions it has, which of them are there, and those.
-fn walk_additions(rt: &impl Print, s: &[u8], at: usize) {
-    let count = row(
+fn walk_additions(rt: &impl Print, s: &[u8], at: usize) -> Result<(), Refusal> {
+    let (n, p) = row(
         rt,
         b"count of additions",
         at,
         fields::addition_count(s, ALL, at),
-    );
-    let Field::Value(n, p) = count else {
-        return;
-    };
-    let there = row(
+    )?;
+    let (v, q) = row(
         rt,
         b"presence of additions",
         p,
         fields::additions_there(s, ALL, p, n as usize),
-    );
-    let Field::Value(v, q) = there else {
-        return;
-    };
-    walk_each(rt, s, q, u64::count_ones(v));
+    )?;
+    walk_each(rt, s, q, v.count_ones())
 }
 
 // The check, which is always there, and what was added behind it.
-fn walk_check(rt: &impl Print, s: &[u8], extended: bool, at: usize) {
-    let check = walk_string(
+fn walk_check(rt: &impl Print, s: &[u8], extended: bool, at: usize) -> Result<(), Refusal> {
+    let (_, p) = walk_string(
         rt,
         s,
         at,
@@ -110,19 +88,23 @@ fn walk_check(rt: &impl Print, s: &[u8], extended: bool, at: usize) {
         Data::BIT,
         0,
         Data::CHECK_MOST,
-    );
-    let Field::Value(_, p) = check else {
-        return;
-    };
+    )?;
     if extended {
-        walk_additions(rt, s, p);
+        walk_additions(rt, s, p)?;
     }
+    Ok(())
 }
 
 // What follows the identifier.
-fn walk_opaque(rt: &impl Print, s: &[u8], extended: bool, there: bool, at: usize) {
+fn walk_opaque(
+    rt: &impl Print,
+    s: &[u8],
+    extended: bool,
+    there: bool,
+    at: usize,
+) -> Result<(), Refusal> {
     if there {
-        let message = walk_string(
+        let (_, p) = walk_string(
             rt,
             s,
             at,
@@ -131,33 +113,22 @@ fn walk_opaque(rt: &impl Print, s: &[u8], extended: bool, there: bool, at: usize
             Data::BIT,
             0,
             Data::MESSAGE_MOST,
-        );
-        let Field::Value(_, p) = message else {
-            return;
-        };
-        walk_check(rt, s, extended, p);
-        return;
+        )?;
+        return walk_check(rt, s, extended, p);
     }
-    walk_check(rt, s, extended, at);
+    walk_check(rt, s, extended, at)
 }
 
 // Message data: the extension bit, the presence bits, the parts that are there, and what was added.
-fn walk_data(rt: &impl Print, s: &[u8], at: usize) {
-    let extension = row(rt, b"extension bit", at, fields::bit_field(s, ALL, at, 1));
-    let Field::Value(e, p) = extension else {
-        return;
-    };
+fn walk_data(rt: &impl Print, s: &[u8], at: usize) -> Result<(), Refusal> {
+    let (e, p) = row(rt, b"extension bit", at, fields::bit_field(s, ALL, at, 1))?;
     let extended = 0 < e;
-    let presence = row(rt, b"presence bits", p, fields::bit_field(s, ALL, p, 2));
-    let Field::Value(v, q) = presence else {
-        return;
-    };
+    let (v, q) = row(rt, b"presence bits", p, fields::bit_field(s, ALL, p, 2))?;
     let messaged = v % 2 == 1;
     if v < 2 {
-        walk_opaque(rt, s, extended, messaged, q);
-        return;
+        return walk_opaque(rt, s, extended, messaged, q);
     }
-    let identifier = walk_string(
+    let (_, r) = walk_string(
         rt,
         s,
         q,
@@ -166,23 +137,18 @@ fn walk_data(rt: &impl Print, s: &[u8], at: usize) {
         Data::OCTET,
         Data::IDENTIFIER_LEAST,
         Data::IDENTIFIER_MOST,
-    );
-    let Field::Value(_, r) = identifier else {
-        return;
-    };
-    walk_opaque(rt, s, extended, messaged, r);
-}
-
-// AircraftPDUs hold downlink messages, GroundPDUs uplink messages.
-fn sent_by(pdus: PduType) -> Direction {
-    match pdus {
-        PduType::AircraftPdus => Direction::Downlink,
-        PduType::GroundPdus => Direction::Uplink,
-    }
+    )?;
+    walk_opaque(rt, s, extended, messaged, r)
 }
 
 // What a send holds: message data, or in type 2 a message in place.
-fn walk_send(rt: &impl Print, s: &[u8], edition: Edition, pdus: PduType, at: usize) {
+fn walk_send(
+    rt: &impl Print,
+    s: &[u8],
+    edition: Edition,
+    pdus: PduType,
+    at: usize,
+) -> Result<(), Refusal> {
     match edition {
         Edition::Protected => walk_data(rt, s, at),
         Edition::Plain => walk_message(rt, sent_by(pdus), s, ALL, at),
@@ -190,18 +156,22 @@ fn walk_send(rt: &impl Print, s: &[u8], edition: Edition, pdus: PduType, at: usi
 }
 
 // A message in place, or none.
-fn walk_perhaps(rt: &impl Print, s: &[u8], pdus: PduType, at: usize) {
-    let choice = row(rt, b"message or none", at, fields::bit_field(s, ALL, at, 1));
-    let Field::Value(v, p) = choice else {
-        return;
-    };
+fn walk_perhaps(rt: &impl Print, s: &[u8], pdus: PduType, at: usize) -> Result<(), Refusal> {
+    let (v, p) = row(rt, b"message or none", at, fields::bit_field(s, ALL, at, 1))?;
     if 0 < v {
-        walk_message(rt, sent_by(pdus), s, ALL, p);
+        walk_message(rt, sent_by(pdus), s, ALL, p)?;
     }
+    Ok(())
 }
 
 // What a start holds behind its mode.
-fn walk_started(rt: &impl Print, s: &[u8], edition: Edition, pdus: PduType, at: usize) {
+fn walk_started(
+    rt: &impl Print,
+    s: &[u8],
+    edition: Edition,
+    pdus: PduType,
+    at: usize,
+) -> Result<(), Refusal> {
     match edition {
         Edition::Protected => walk_data(rt, s, at),
         Edition::Plain => walk_perhaps(rt, s, pdus, at),
@@ -209,30 +179,30 @@ fn walk_started(rt: &impl Print, s: &[u8], edition: Edition, pdus: PduType, at: 
 }
 
 // A startdown has a mode, or leaves it out.
-fn walk_start_down(rt: &impl Print, s: &[u8], edition: Edition, at: usize) {
-    let presence = row(
+fn walk_start_down(rt: &impl Print, s: &[u8], edition: Edition, at: usize) -> Result<(), Refusal> {
+    let (v, p) = row(
         rt,
         b"presence of the mode",
         at,
         fields::bit_field(s, ALL, at, 1),
-    );
-    let Field::Value(v, p) = presence else {
-        return;
-    };
+    )?;
     if v == 0 {
-        walk_started(rt, s, edition, PduType::AircraftPdus, p);
-        return;
+        return walk_started(rt, s, edition, PduType::AircraftPdus, p);
     }
-    let mode = row(rt, b"mode", p, fields::whole(s, ALL, p, 0, Apdu::MODE_LAST));
-    let Field::Value(m, q) = mode else {
-        return;
-    };
+    let (m, q) = row(rt, b"mode", p, fields::whole(s, ALL, p, 0, Apdu::MODE_LAST))?;
     if 0 < m {
-        walk_started(rt, s, edition, PduType::AircraftPdus, q);
+        walk_started(rt, s, edition, PduType::AircraftPdus, q)?;
     }
+    Ok(())
 }
 
-fn walk_start(rt: &impl Print, s: &[u8], edition: Edition, pdus: PduType, at: usize) {
+fn walk_start(
+    rt: &impl Print,
+    s: &[u8],
+    edition: Edition,
+    pdus: PduType,
+    at: usize,
+) -> Result<(), Refusal> {
     match pdus {
         PduType::AircraftPdus => walk_start_down(rt, s, edition, at),
         PduType::GroundPdus => walk_started(rt, s, edition, PduType::GroundPdus, at),
@@ -254,36 +224,31 @@ fn user_last(edition: Edition) -> u64 {
     }
 }
 
-fn walk(rt: &impl Print, s: &[u8], edition: Edition, pdus: PduType) {
-    let index = walk_index(rt, s, 0, b"alternative", last_of(pdus));
-    let Field::Value(i, p) = index else {
-        return;
-    };
-    if i == 0 {
-        walk_index(rt, s, p, b"reason of the user", user_last(edition));
+fn walk(rt: &impl Print, s: &[u8], edition: Edition, pdus: PduType) -> Result<(), Refusal> {
+    let (i, p) = walk_index(rt, s, 0, b"alternative", last_of(pdus))?;
+    match i {
+        0 => {
+            walk_index(rt, s, p, b"reason of the user", user_last(edition))?;
+        }
+        1 => {
+            walk_index(rt, s, p, b"reason of the provider", Apdu::PROVIDER_LAST)?;
+        }
+        2 => walk_start(rt, s, edition, pdus, p)?,
+        3 => walk_send(rt, s, edition, pdus, p)?,
+        4 => walk_forward(rt, s, edition, p)?,
+        5 => {
+            walk_index(rt, s, p, b"result of the forward", Apdu::RESPONSE_LAST)?;
+        }
+        _ => {}
     }
-    if i == 1 {
-        walk_index(rt, s, p, b"reason of the provider", Apdu::PROVIDER_LAST);
-    }
-    if i == 2 {
-        walk_start(rt, s, edition, pdus, p);
-    }
-    if i == 3 {
-        walk_send(rt, s, edition, pdus, p);
-    }
-    if i == 4 {
-        walk_forward(rt, s, edition, p);
-    }
-    if i == 5 {
-        walk_index(rt, s, p, b"result of the forward", Apdu::RESPONSE_LAST);
-    }
+    Ok(())
 }
 
+// What the walk meets is what the APDU's own reader answers.
 pub(crate) fn explain_apdu(rt: &impl Print, s: &[u8], edition: Edition, pdus: PduType) {
-    walk(rt, s, edition, pdus);
-    let answer = codec::read_apdu(edition, s, pdus);
-    match answer {
-        Decoded::Is(_) => accepted(rt),
-        Decoded::Refused(r) => refused(rt, r, s),
+    let _ = walk(rt, s, edition, pdus);
+    match codec::read_apdu(edition, s, pdus) {
+        Ok(_) => accepted(rt),
+        Err(r) => refused(rt, r, s),
     }
 }

@@ -1,13 +1,10 @@
 // The fields of a forward message, and of the response to one.
 use crate::messages::walk_body;
 use crate::rows::row;
-use apdu::{Data, Heading, Triple};
+use apdu::{ALL, Data, Heading, Triple};
 use editions::Edition;
-use fields::Field;
+use fields::{Reading, Refusal};
 use kinds::Direction;
-
-// The end of lent bytes: all of them.
-const ALL: usize = 18446744073709551615;
 
 fn walk_three(
     rt: &impl Print,
@@ -18,31 +15,25 @@ fn walk_three(
     first: &[u8],
     second: &[u8],
     third: &[u8],
-) -> Field {
-    let one = row(
+) -> Reading<u64> {
+    let (_, p) = row(
         rt,
         first,
         at,
         fields::whole(s, ALL, at, from.first, to.first),
-    );
-    let Field::Value(_, p) = one else {
-        return one;
-    };
-    let two = row(
+    )?;
+    let (_, q) = row(
         rt,
         second,
         p,
         fields::whole(s, ALL, p, from.second, to.second),
-    );
-    let Field::Value(_, q) = two else {
-        return two;
-    };
+    )?;
     row(rt, third, q, fields::whole(s, ALL, q, from.third, to.third))
 }
 
 // The count of the flight identification's characters, then they, seven bits each, as one field.
-fn walk_flight(rt: &impl Print, s: &[u8], at: usize) -> Field {
-    let count = row(
+fn walk_flight(rt: &impl Print, s: &[u8], at: usize) -> Reading<u64> {
+    let (n, p) = row(
         rt,
         b"count of characters",
         at,
@@ -53,10 +44,7 @@ fn walk_flight(rt: &impl Print, s: &[u8], at: usize) -> Field {
             Heading::CHARACTERS_LEAST,
             Heading::CHARACTERS_MOST,
         ),
-    );
-    let Field::Value(n, p) = count else {
-        return count;
-    };
+    )?;
     row(
         rt,
         b"characters",
@@ -66,16 +54,13 @@ fn walk_flight(rt: &impl Print, s: &[u8], at: usize) -> Field {
 }
 
 // The aircraft's address, and what the message's bits are.
-fn walk_address(rt: &impl Print, s: &[u8], at: usize) -> Field {
-    let address = row(
+fn walk_address(rt: &impl Print, s: &[u8], at: usize) -> Reading<u64> {
+    let (_, p) = row(
         rt,
         b"address",
         at,
         fields::contents(s, ALL, at, Data::BIT, Heading::ADDRESS_BITS),
-    );
-    let Field::Value(_, p) = address else {
-        return address;
-    };
+    )?;
     row(
         rt,
         b"direction",
@@ -85,8 +70,8 @@ fn walk_address(rt: &impl Print, s: &[u8], at: usize) -> Field {
 }
 
 // What stands before the message.
-fn walk_heading(rt: &impl Print, s: &[u8], at: usize) -> Field {
-    let date = walk_three(
+fn walk_heading(rt: &impl Print, s: &[u8], at: usize) -> Reading<u64> {
+    let (_, p) = walk_three(
         rt,
         s,
         at,
@@ -95,11 +80,8 @@ fn walk_heading(rt: &impl Print, s: &[u8], at: usize) -> Field {
         b"year",
         b"month",
         b"day",
-    );
-    let Field::Value(_, p) = date else {
-        return date;
-    };
-    let time = walk_three(
+    )?;
+    let (_, q) = walk_three(
         rt,
         s,
         p,
@@ -108,34 +90,26 @@ fn walk_heading(rt: &impl Print, s: &[u8], at: usize) -> Field {
         b"hours",
         b"minutes",
         b"seconds",
-    );
-    let Field::Value(_, q) = time else {
-        return time;
-    };
-    let flight = walk_flight(rt, s, q);
-    let Field::Value(_, r) = flight else {
-        return flight;
-    };
+    )?;
+    let (_, r) = walk_flight(rt, s, q)?;
     walk_address(rt, s, r)
 }
 
 // The bits that are forwarded, with their length.
-fn walk_forwarded(rt: &impl Print, s: &[u8], at: usize) {
-    let length = row(
+fn walk_forwarded(rt: &impl Print, s: &[u8], at: usize) -> Result<(), Refusal> {
+    let (n, q) = row(
         rt,
         b"length of the message",
         at,
         fields::length_within(s, ALL, at, 0, Data::MESSAGE_MOST as u64),
-    );
-    let Field::Value(n, q) = length else {
-        return;
-    };
+    )?;
     row(
         rt,
         b"message",
         q,
         fields::contents(s, ALL, q, Data::BIT, n as usize),
-    );
+    )?;
+    Ok(())
 }
 
 // What the bits of a direction's number are.
@@ -146,11 +120,13 @@ fn direction_of(z: u64) -> Direction {
     Direction::Downlink
 }
 
-pub(crate) fn walk_forward(rt: &impl Print, s: &[u8], edition: Edition, at: usize) {
-    let heading = walk_heading(rt, s, at);
-    let Field::Value(z, p) = heading else {
-        return;
-    };
+pub(crate) fn walk_forward(
+    rt: &impl Print,
+    s: &[u8],
+    edition: Edition,
+    at: usize,
+) -> Result<(), Refusal> {
+    let (z, p) = walk_heading(rt, s, at)?;
     match edition {
         Edition::Protected => walk_forwarded(rt, s, p),
         Edition::Plain => walk_body(rt, direction_of(z), s, ALL, p),

@@ -52,45 +52,19 @@ fn has_more(input: &mut impl io::Read) -> bool {
     0 < read_full(input, &mut one)
 }
 
-// The place of the line's end, from a place on.
-fn line_end(s: &[u8], from: usize) -> usize {
-    let mut i = from;
-    while i < s.len() {
-        if s[i] == 10 {
-            return i;
-        }
-        i += 1;
-    }
-    i
-}
-
 // Each line in turn.
 fn explain_all(rt: &impl Print, s: &[u8], bytes: &mut [u8]) {
-    let mut at: usize = 0;
-    while at < s.len() {
-        let end = line_end(s, at);
-        if end < at {
-            return;
-        }
-        if s.len() < end {
-            return;
-        }
-        explain_line(rt, &s[at..end], bytes);
-        if s.len() <= end {
-            return;
-        }
-        at = end + 1;
+    for line in s.split_inclusive(|c| *c == b'\n') {
+        explain_line(rt, line.strip_suffix(b"\n").unwrap_or(line), bytes);
     }
 }
 
 fn main(rt: HostRuntime) {
     let mut input = large_buffer();
     let n = read_full(&mut rt.stdin(), &mut input);
-    if n == input.len() {
-        if has_more(&mut rt.stdin()) {
-            say(&rt, b"input of more than 65536 bytes, not read\n");
-            return;
-        }
+    if n == input.len() && has_more(&mut rt.stdin()) {
+        say(&rt, b"input of more than 65536 bytes, not read\n");
+        return;
     }
     let mut bytes = large_buffer();
     explain_all(&rt, &input[..n], &mut bytes);

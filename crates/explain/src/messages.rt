@@ -1,12 +1,20 @@
 // The fields of a CPDLC message, and what its reader answers.
 use crate::rows::{accepted, refused, row, say};
-use elements::values::{Element, LevelType, Step, Time};
-use fields::Field;
+use elements::values::{Element, LevelType, Time};
+use fields::{Reading, Refusal};
 use inner::message::read_exactly;
 use inner::values::{DateTime, Header, Message};
 use kinds::{ArgumentKind, Direction, kind_of};
 
-fn whole(rt: &impl Print, s: &[u8], end: usize, at: usize, name: &[u8], lo: u64, hi: u64) -> Field {
+fn whole(
+    rt: &impl Print,
+    s: &[u8],
+    end: usize,
+    at: usize,
+    name: &[u8],
+    lo: u64,
+    hi: u64,
+) -> Reading<u64> {
     row(rt, name, at, fields::whole(s, end, at, lo, hi))
 }
 
@@ -25,66 +33,49 @@ fn highest(unit: u64) -> u64 {
     0
 }
 
-fn walk_level_type(rt: &impl Print, s: &[u8], end: usize, at: usize) -> Field {
-    let choice = whole(rt, s, end, at, b"unit", 0, LevelType::LAST_UNIT);
-    let Field::Value(unit, p) = choice else {
-        return choice;
-    };
+fn walk_level_type(rt: &impl Print, s: &[u8], end: usize, at: usize) -> Reading<u64> {
+    let (unit, p) = whole(rt, s, end, at, b"unit", 0, LevelType::LAST_UNIT)?;
     whole(rt, s, end, p, b"level", lowest(unit), highest(unit))
 }
 
-fn walk_level(rt: &impl Print, s: &[u8], end: usize, at: usize) -> Field {
-    let choice = whole(rt, s, end, at, b"level or block", 0, 1);
-    let Field::Value(block, p) = choice else {
-        return choice;
-    };
-    let first = walk_level_type(rt, s, end, p);
-    let Field::Value(_, q) = first else {
-        return first;
-    };
+fn walk_level(rt: &impl Print, s: &[u8], end: usize, at: usize) -> Reading<u64> {
+    let (block, p) = whole(rt, s, end, at, b"level or block", 0, 1)?;
+    let (level, q) = walk_level_type(rt, s, end, p)?;
     if block == 0 {
-        return first;
+        return Ok((level, q));
     }
     walk_level_type(rt, s, end, q)
 }
 
-fn walk_two_levels(rt: &impl Print, s: &[u8], end: usize, at: usize) -> Field {
-    let first = walk_level(rt, s, end, at);
-    let Field::Value(_, p) = first else {
-        return first;
-    };
+fn walk_two_levels(rt: &impl Print, s: &[u8], end: usize, at: usize) -> Reading<u64> {
+    let (_, p) = walk_level(rt, s, end, at)?;
     walk_level(rt, s, end, p)
 }
 
-fn walk_time(rt: &impl Print, s: &[u8], end: usize, at: usize) -> Field {
-    let hours = whole(rt, s, end, at, b"hours", 0, Time::LAST_HOUR);
-    let Field::Value(_, p) = hours else {
-        return hours;
-    };
+fn walk_time(rt: &impl Print, s: &[u8], end: usize, at: usize) -> Reading<u64> {
+    let (_, p) = whole(rt, s, end, at, b"hours", 0, Time::LAST_HOUR)?;
     whole(rt, s, end, p, b"minutes", 0, Time::LAST_MINUTE)
 }
 
-fn walk_two_digits(rt: &impl Print, s: &[u8], end: usize, at: usize) -> Field {
-    let first = whole(rt, s, end, at, b"digit", 0, Element::LAST_DIGIT);
-    let Field::Value(_, p) = first else {
-        return first;
-    };
+fn walk_two_digits(rt: &impl Print, s: &[u8], end: usize, at: usize) -> Reading<u64> {
+    let (_, p) = whole(rt, s, end, at, b"digit", 0, Element::LAST_DIGIT)?;
     whole(rt, s, end, p, b"digit", 0, Element::LAST_DIGIT)
 }
 
-fn walk_code(rt: &impl Print, s: &[u8], end: usize, at: usize) -> Field {
-    let first = walk_two_digits(rt, s, end, at);
-    let Field::Value(_, p) = first else {
-        return first;
-    };
+fn walk_code(rt: &impl Print, s: &[u8], end: usize, at: usize) -> Reading<u64> {
+    let (_, p) = walk_two_digits(rt, s, end, at)?;
     walk_two_digits(rt, s, end, p)
 }
 
-fn walk_text(rt: &impl Print, s: &[u8], end: usize, at: usize, least: u64, most: u64) -> Field {
-    let size = whole(rt, s, end, at, b"size of the text", least, most);
-    let Field::Value(n, p) = size else {
-        return size;
-    };
+fn walk_text(
+    rt: &impl Print,
+    s: &[u8],
+    end: usize,
+    at: usize,
+    least: u64,
+    most: u64,
+) -> Reading<u64> {
+    let (n, p) = whole(rt, s, end, at, b"size of the text", least, most)?;
     row(
         rt,
         b"characters",
@@ -93,7 +84,7 @@ fn walk_text(rt: &impl Print, s: &[u8], end: usize, at: usize, least: u64, most:
     )
 }
 
-fn walk_designation(rt: &impl Print, s: &[u8], end: usize, at: usize) -> Field {
+fn walk_designation(rt: &impl Print, s: &[u8], end: usize, at: usize) -> Reading<u64> {
     walk_text(
         rt,
         s,
@@ -104,22 +95,25 @@ fn walk_designation(rt: &impl Print, s: &[u8], end: usize, at: usize) -> Field {
     )
 }
 
-fn walk_facility(rt: &impl Print, s: &[u8], end: usize, at: usize) -> Field {
-    let choice = whole(rt, s, end, at, b"facility or none", 0, 1);
-    let Field::Value(designated, p) = choice else {
-        return choice;
-    };
+fn walk_facility(rt: &impl Print, s: &[u8], end: usize, at: usize) -> Reading<u64> {
+    let (designated, p) = whole(rt, s, end, at, b"facility or none", 0, 1)?;
     if designated == 0 {
-        return choice;
+        return Ok((designated, p));
     }
     walk_designation(rt, s, end, p)
 }
 
 // The argument; of an element that is not carried nothing more is read.
-fn walk_argument(rt: &impl Print, kind: ArgumentKind, s: &[u8], end: usize, at: usize) -> Field {
+fn walk_argument(
+    rt: &impl Print,
+    kind: ArgumentKind,
+    s: &[u8],
+    end: usize,
+    at: usize,
+) -> Reading<u64> {
     match kind {
         ArgumentKind::NotCarried => fields::refused_at(at, fields::Fault::NotCarried),
-        ArgumentKind::None => Field::Value(0, at),
+        ArgumentKind::None => Ok((0, at)),
         ArgumentKind::Level => walk_level(rt, s, end, at),
         ArgumentKind::TwoLevels => walk_two_levels(rt, s, end, at),
         ArgumentKind::Time => walk_time(rt, s, end, at),
@@ -150,49 +144,53 @@ fn last_of(direction: Direction) -> u64 {
     }
 }
 
-fn walk_element(rt: &impl Print, direction: Direction, s: &[u8], end: usize, at: usize) -> Field {
-    let extension = row(rt, b"extension bit", at, fields::extension_bit(s, end, at));
-    let Field::Value(_, p) = extension else {
-        return extension;
-    };
-    let index = whole(rt, s, end, p, b"element", 0, last_of(direction));
-    let Field::Value(i, q) = index else {
-        return index;
-    };
+fn walk_element(
+    rt: &impl Print,
+    direction: Direction,
+    s: &[u8],
+    end: usize,
+    at: usize,
+) -> Reading<u64> {
+    let (_, p) = row(rt, b"extension bit", at, fields::extension_bit(s, end, at))?;
+    let (i, q) = whole(rt, s, end, p, b"element", 0, last_of(direction))?;
     let kind = kind_of(direction, (i % 256) as u8);
     walk_argument(rt, kind, s, end, q)
 }
 
-fn walk_elements(rt: &impl Print, direction: Direction, s: &[u8], end: usize, at: usize, n: u64) {
-    let mut i: u64 = 0;
+fn walk_elements(
+    rt: &impl Print,
+    direction: Direction,
+    s: &[u8],
+    end: usize,
+    at: usize,
+    n: u64,
+) -> Result<(), Refusal> {
     let mut p = at;
-    while i < n {
-        let element = walk_element(rt, direction, s, end, p);
-        let Field::Value(_, next) = element else {
-            return;
-        };
+    for _ in 0..n {
+        let (_, next) = walk_element(rt, direction, s, end, p)?;
         p = next;
-        i += 1;
     }
+    Ok(())
 }
 
 // What follows the header.
-pub(crate) fn walk_body(rt: &impl Print, direction: Direction, s: &[u8], end: usize, at: usize) {
-    let presence = whole(rt, s, end, at, b"presence of constrained data", 0, 1);
-    let Field::Value(constrained, p) = presence else {
-        return;
-    };
+pub(crate) fn walk_body(
+    rt: &impl Print,
+    direction: Direction,
+    s: &[u8],
+    end: usize,
+    at: usize,
+) -> Result<(), Refusal> {
+    let (constrained, p) = whole(rt, s, end, at, b"presence of constrained data", 0, 1)?;
     if constrained == 0 {
-        let count = whole(rt, s, end, p, b"count of elements", 1, 5);
-        let Field::Value(n, q) = count else {
-            return;
-        };
-        walk_elements(rt, direction, s, end, q, n);
+        let (n, q) = whole(rt, s, end, p, b"count of elements", 1, 5)?;
+        walk_elements(rt, direction, s, end, q, n)?;
     }
+    Ok(())
 }
 
-fn walk_date(rt: &impl Print, s: &[u8], end: usize, at: usize) -> Field {
-    let year = whole(
+fn walk_date(rt: &impl Print, s: &[u8], end: usize, at: usize) -> Reading<u64> {
+    let (_, p) = whole(
         rt,
         s,
         end,
@@ -200,26 +198,14 @@ fn walk_date(rt: &impl Print, s: &[u8], end: usize, at: usize) -> Field {
         b"year",
         DateTime::FIRST_YEAR,
         DateTime::LAST_YEAR,
-    );
-    let Field::Value(_, p) = year else {
-        return year;
-    };
-    let month = whole(rt, s, end, p, b"month", 1, DateTime::LAST_MONTH);
-    let Field::Value(_, q) = month else {
-        return month;
-    };
+    )?;
+    let (_, q) = whole(rt, s, end, p, b"month", 1, DateTime::LAST_MONTH)?;
     whole(rt, s, end, q, b"day", 1, DateTime::LAST_DAY)
 }
 
-fn walk_date_time(rt: &impl Print, s: &[u8], end: usize, at: usize) -> Field {
-    let date = walk_date(rt, s, end, at);
-    let Field::Value(_, p) = date else {
-        return date;
-    };
-    let time = walk_time(rt, s, end, p);
-    let Field::Value(_, q) = time else {
-        return time;
-    };
+fn walk_date_time(rt: &impl Print, s: &[u8], end: usize, at: usize) -> Reading<u64> {
+    let (_, p) = walk_date(rt, s, end, at)?;
+    let (_, q) = walk_time(rt, s, end, p)?;
     whole(rt, s, end, q, b"seconds", 0, DateTime::LAST_SECOND)
 }
 
@@ -231,60 +217,48 @@ fn walk_dated(
     end: usize,
     acknowledged: bool,
     at: usize,
-) {
-    let dated = walk_date_time(rt, s, end, at);
-    let Field::Value(_, p) = dated else {
-        return;
-    };
+) -> Result<(), Refusal> {
+    let (_, p) = walk_date_time(rt, s, end, at)?;
     if acknowledged {
-        let acknowledgement = whole(rt, s, end, p, b"acknowledgement", 0, 1);
-        let Field::Value(v, q) = acknowledgement else {
-            return;
-        };
+        let (v, q) = whole(rt, s, end, p, b"acknowledgement", 0, 1)?;
         if v == 0 {
-            walk_body(rt, direction, s, end, q);
+            walk_body(rt, direction, s, end, q)?;
         }
-        return;
+        return Ok(());
     }
-    walk_body(rt, direction, s, end, p);
+    walk_body(rt, direction, s, end, p)
 }
 
 // The message that begins at a place.
-pub(crate) fn walk_message(rt: &impl Print, direction: Direction, s: &[u8], end: usize, at: usize) {
-    let presence = whole(rt, s, end, at, b"presence bits", 0, 3);
-    let Field::Value(v, p) = presence else {
-        return;
-    };
-    let number = whole(rt, s, end, p, b"identification", 0, Header::LAST_NUMBER);
-    let Field::Value(_, q) = number else {
-        return;
-    };
+pub(crate) fn walk_message(
+    rt: &impl Print,
+    direction: Direction,
+    s: &[u8],
+    end: usize,
+    at: usize,
+) -> Result<(), Refusal> {
+    let (v, p) = whole(rt, s, end, at, b"presence bits", 0, 3)?;
+    let (_, q) = whole(rt, s, end, p, b"identification", 0, Header::LAST_NUMBER)?;
     if v < 2 {
-        walk_dated(rt, direction, s, end, v % 2 == 1, q);
-        return;
+        return walk_dated(rt, direction, s, end, v % 2 == 1, q);
     }
-    let reference = whole(rt, s, end, q, b"reference", 0, Header::LAST_NUMBER);
-    let Field::Value(_, r) = reference else {
-        return;
-    };
-    walk_dated(rt, direction, s, end, v % 2 == 1, r);
+    let (_, r) = whole(rt, s, end, q, b"reference", 0, Header::LAST_NUMBER)?;
+    walk_dated(rt, direction, s, end, v % 2 == 1, r)
 }
 
-// The first `count` bits, which a message may have and the bytes hold.
+// The first `count` bits, which a message may have and the bytes hold. What the walk meets is what the message's own reader answers.
 pub(crate) fn explain_message(rt: &impl Print, s: &[u8], count: usize, direction: Direction) {
     if Message::BITS < count {
         say(rt, b"not read: a message has at most 16383 bits\n");
         return;
     }
-    if s.len() < count / 8 + (count % 8 + 7) / 8 {
+    if s.len() < count.div_ceil(8) {
         say(rt, b"not read: more bits than the bytes hold\n");
         return;
     }
-    walk_message(rt, direction, s, count, 0);
-    let read = read_exactly(direction, s, count);
-    let step = read.step;
-    match step {
-        Step::Next(_) => accepted(rt),
-        Step::Refused(r) => refused(rt, r, s),
+    let _ = walk_message(rt, direction, s, count, 0);
+    match read_exactly(direction, s, count) {
+        Ok(_) => accepted(rt),
+        Err(r) => refused(rt, r, s),
     }
 }

@@ -1,5 +1,5 @@
 // What is printed: a line for each field, the refusal, and a mark under the byte.
-use fields::{Fault, Field, Refusal};
+use fields::{Fault, Reading, Refusal};
 
 // What cannot be written is left out, as to a reader that is gone.
 pub(crate) fn say(rt: &impl Print, words: &[u8]) {
@@ -36,12 +36,10 @@ fn show_row(rt: &impl Print, name: &[u8], at: usize, next: usize, value: u64) {
 }
 
 // Shows a field that was read at a place, and hands the answer on.
-pub(crate) fn row(rt: &impl Print, name: &[u8], at: usize, f: Field) -> Field {
-    let Field::Value(v, next) = f else {
-        return f;
-    };
+pub(crate) fn row(rt: &impl Print, name: &[u8], at: usize, f: Reading<u64>) -> Reading<u64> {
+    let (v, next) = f?;
     show_row(rt, name, at, next, v);
-    f
+    Ok((v, next))
 }
 
 fn show_name(rt: &impl Print, f: Fault) {
@@ -73,29 +71,21 @@ fn show_name(rt: &impl Print, f: Fault) {
     }
 }
 
-fn show_byte(rt: &impl Print, x: u8) {
-    let _ = print!(rt; "{x:02x}");
-}
-
 // The bytes, a space between them.
 fn show_bytes(rt: &impl Print, s: &[u8]) {
-    let mut i: usize = 0;
-    while i < s.len() {
+    for (i, x) in s.iter().enumerate() {
         if 0 < i {
             say(rt, b" ");
         }
-        show_byte(rt, s[i]);
-        i += 1;
+        let _ = print!(rt; "{x:02x}");
     }
     say(rt, b"\n");
 }
 
 // So many spaces, and the mark.
 fn show_mark(rt: &impl Print, spaces: usize) {
-    let mut i: usize = 0;
-    while i < spaces {
+    for _ in 0..spaces {
         say(rt, b" ");
-        i += 1;
     }
     say(rt, b"^\n");
 }

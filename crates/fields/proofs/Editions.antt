@@ -16,8 +16,8 @@ use Rattle.bits.proofs.Numbers.{Bits, length_bits_n, bits_n_split, bits_n_num, n
 use Rattle.fields.specs.Additions.{addition_count, additions_there, addition_at, stepped_over, additions_at}
 use Rattle.fields.specs.Encodings.{bits_fit, length_fits, length_bits}
 use Rattle.fields.specs.Fields.{bit_field, extension_bit}
-use Rattle.fields.specs.declared.Field.TheVariants.{Value}
 use Rattle.fields.proofs.RoundTrip.{Stands, stands_split, bit_field_is, extension_bit_is, length_determinant, items_written_read}
+use Rattle.std.specs.Prelude.{Ok}
 
 -- ---- what is written
 
@@ -88,7 +88,7 @@ ones_marks (absent ∷ xs) = ones_cons 0 (marks xs) (marks_bits xs) ∙ rw (ones
 ones_marks (there o ∷ xs) = ones_cons 1 (marks xs) (marks_bits xs) ∙ rw (ones_one, ones_marks xs) (omega arith)
 
 module _ (l : List ℕ) (at next : ℕ) (xs : List Addition) (few : length xs ≤ 64) (some : 0 < given xs) where
-  there_read : Stands l at (marks xs) next → additions_there l at (length xs) ≡ Value (num_of (marks xs)) next
+  there_read : Stands l at (marks xs) next → additions_there l at (length xs) ≡ Ok (num_of (marks xs), next)
   unfolding additions_there
   there_read s =
       let n = length_marks xs in
@@ -106,7 +106,7 @@ module _ (l : List ℕ) (at next : ℕ) (xs : List Addition) (few : length xs �
 
 -- ---- the count
 
-count_read : (l : List ℕ) (at m next : ℕ) → m < 64 → Stands l at (bits_n 1 0 ++ bits_n 6 m) next → addition_count l at ≡ Value (m + 1) next
+count_read : (l : List ℕ) (at m next : ℕ) → m < 64 → Stands l at (bits_n 1 0 ++ bits_n 6 m) next → addition_count l at ≡ Ok (m + 1, next)
 unfolding addition_count
 count_read l at m next h s =
     let z : m / 2 ^ 6 ≡ 0 = omega arith in
@@ -119,22 +119,22 @@ count_read l at m next h s =
 
 addition_read : (l : List ℕ) (at next : ℕ) (o : List ℕ) → eqb (8 * (length o / 8)) (length o) ≡ true
     → length_fits (length o / 8) ≡ true → Stands l at (length_bits (length o / 8) ++ o) next
-    → addition_at l at ≡ Value (length o / 8) next
+    → addition_at l at ≡ Ok (length o / 8, next)
 unfolding addition_at
 addition_read l at next o e f s = items_written_read length_determinant 8 l at (length o / 8) next o f
     (sym (eqb-true (8 * (length o / 8)) (length o) e)) s
 
-stepped_one : (l : List ℕ) (at k n next : ℕ) → addition_at l at ≡ Value n next → stepped_over l at (suc k) ≡ stepped_over l next k
+stepped_one : (l : List ℕ) (at k n next : ℕ) → addition_at l at ≡ Ok (n, next) → stepped_over l at (suc k) ≡ stepped_over l next k
 unfolding stepped_over
 stepped_one l at k n next e = rw e
 
 contents_read : (l : List ℕ) (xs : List Addition) (at next : ℕ) → additions_fit xs ≡ true
-    → Stands l at (contents xs) next → stepped_over l at (given xs) ≡ Value 0 next
+    → Stands l at (contents xs) next → stepped_over l at (given xs) ≡ Ok (0, next)
 unfolding contents additions_fit given stepped_over
 contents_read l [] at next f s =
     let p = s.place in
     let e : at ≡ next = omega arith in
-    ap (Value 0) e
+    ap (λ (place : ℕ). Ok (0, place)) e
 contents_read l (absent ∷ xs) at next f s = contents_read l xs at next f s
 contents_read l (there o ∷ xs) at next f s =
     let g = both_left (eqb (8 * (length o / 8)) (length o) && length_fits (length o / 8)) (additions_fit xs) f in
@@ -152,7 +152,7 @@ some_there [] h = absurd (omega arith)
 some_there (a ∷ xs) h = omega arith
 
 pub later_stepped : (l : List ℕ) (at next : ℕ) (xs : List Addition) → length xs ≤ 64 → 0 < given xs
-    → additions_fit xs ≡ true → Stands l at (additions_bits xs) next → additions_at l at ≡ Value 0 next
+    → additions_fit xs ≡ true → Stands l at (additions_bits xs) next → additions_at l at ≡ Ok (0, next)
 unfolding additions_bits additions_at
 later_stepped l at next xs few some f s =
     let pos = some_there xs some in
@@ -163,7 +163,7 @@ later_stepped l at next xs few some f s =
     (sym (append_assoc (bits_n 1 0) (bits_n 6 (length xs - 1)) (marks xs ++ contents xs))) s in
     let w = stands_split l at next (bits_n 1 0 ++ bits_n 6 (length xs - 1)) (marks xs ++ contents xs) t in
     let u = stands_split l _ next (marks xs) (contents xs) w.second in
-    let c : addition_count l at ≡ Value (length xs) (at + length (bits_n 1 0 ++ bits_n 6 (length xs - 1))) = count_read l
+    let c : addition_count l at ≡ Ok (length xs, at + length (bits_n 1 0 ++ bits_n 6 (length xs - 1))) = count_read l
     at (length xs - 1) _ (omega arith) w.first ∙ ap
-    (λ (n : ℕ). Value n (at + length (bits_n 1 0 ++ bits_n 6 (length xs - 1)))) e in
+    (λ (n : ℕ). Ok (n, at + length (bits_n 1 0 ++ bits_n 6 (length xs - 1)))) e in
     rw (c, there_read l _ _ xs few some u.first, ones_marks xs) (contents_read l xs _ next f u.second)

@@ -1,8 +1,8 @@
 -- Fields that stand together, as one number: an extension bit with its index.
 -- Assumes nothing.
-use mathlib.Core.Path.{◌≡◌, refl, sym, ap, ◌∙◌}
+use mathlib.Core.Path.{◌≡◌, refl, sym, ◌∙◌}
 use mathlib.Core.Bool.{Bool, true, false, cond, ◌&&◌}
-use mathlib.Core.List.{List, ◌++◌}
+use mathlib.Core.List.{List}
 use Prim.Native.Nat.{ℕ, zero, suc, ◌+◌, ◌-◌, ◌*◌, ◌/◌, ◌^◌, ◌≤◌, ◌<◌}
 use native.Mathlib.Omega.{arith}
 use native.Mathlib.Nat.{suc-mul, div-eq_of_lt}
@@ -11,26 +11,22 @@ use borrow.Author.Tests.{le-leb, leb-true}
 use lib.Dec.{leb}
 use lib.ListN.{length, take, drop}
 use lib.Seq.{take-add, drop-drop}
-use Rattle.words.proofs.Laws.{both_left, both_right}
+use Rattle.words.proofs.Laws.{both_left, both_right, some_value, some_place}
 use Rattle.bits.specs.Bits.{bits_n, num_of}
 use Rattle.bits.specs.Read.{read_bits}
 use Rattle.bits.specs.Put.{Left, put_if, put_number}
-use Rattle.bits.specs.declared.Read.{Read}
-use Rattle.bits.specs.declared.Read.TheVariants as read
 use Rattle.bits.proofs.Numbers.{num_append, bits_n_split}
 use Rattle.bits.proofs.Bytes.{length_part}
 use Rattle.fields.specs.Fields.{bit_field, extension_bit, extensible_index, width_of, whole_number}
 use Rattle.fields.specs.Encodings.{index_bits, whole_bits, whole_fits}
-use Rattle.fields.specs.declared.Field.{Field}
-use Rattle.fields.specs.declared.Field.TheVariants.{Value}
-use Rattle.fields.proofs.Answers.{went, field_value, ext_clear, whole_in}
 use Rattle.fields.proofs.Widths.{width_holds}
 use Rattle.fields.proofs.Writers.{as_number, in_range}
+use Rattle.std.specs.Prelude.{None, Ok, Option, Some}
 
 -- ---- a number read is that of the bits
 
-chosen : (b : Bool) (x n v next : ℕ) → cond b (read.Number x n) read.Short ≡ read.Number v next → (b ≡ true) × (v ≡ x) × (next ≡ n)
-chosen true x n v next e = (refl, cc, cc)
+chosen : (b : Bool) (x n v next : ℕ) → cond {A = Option (ℕ × ℕ)} b (Some (x, n)) None ≡ Some (v, next) → (b ≡ true) × (v ≡ x) × (next ≡ n)
+chosen true x n v next e = (refl, sym (some_value e), sym (some_place e))
 chosen false x n v next e = let z : false ≡ true = cc in (z, cc, cc)
 
 record Said (l : List ℕ) (at n v next : ℕ) : Type 0 where
@@ -39,7 +35,7 @@ record Said (l : List ℕ) (at n v next : ℕ) : Type 0 where
   value : v ≡ num_of (take n (drop at l))
   place : next ≡ at + n
 
-said : (l : List ℕ) (at n v next : ℕ) → read_bits l at n ≡ read.Number v next → Said l at n v next
+said : (l : List ℕ) (at n v next : ℕ) → read_bits l at n ≡ Some (v, next) → Said l at n v next
 unfolding read_bits
 said l at n v next e =
     let c = chosen (leb n 64 && leb (at + n) (length l)) (num_of (take n (drop at l))) (at + n) v next e in
@@ -50,7 +46,7 @@ said l at n v next e =
       place = c.2;
     }
 
-reads : (l : List ℕ) (at n : ℕ) → n ≤ 64 → at + n ≤ length l → read.Number (num_of (take n (drop at l))) (at + n) ≡ read_bits l at n
+reads : (l : List ℕ) (at n : ℕ) → n ≤ 64 → at + n ≤ length l → Some (num_of (take n (drop at l)), at + n) ≡ read_bits l at n
 unfolding read_bits
 reads l at n h g = rw (le-leb n 64 h, le-leb (at + n) (length l) g)
 
@@ -66,9 +62,25 @@ in_two l at n h =
     let k : length (take n (drop (at + 1) l)) ≡ n = length_part l (at + 1) n (omega arith) in
     rw (take-add 1 n (drop at l), drop-drop, num_append, k)
 
+field_value : (l : List ℕ) (at n v next : ℕ) → Some (v, next) ≡ read_bits l at n → bit_field l at n ≡ Ok (v, next)
+unfolding bit_field
+field_value l at n v next p = rw (← p)
+
+clear_bit : (l : List ℕ) (at next : ℕ) → bit_field l at 1 ≡ Ok (0, next) → extension_bit l at ≡ Ok (0, next)
+unfolding extension_bit
+clear_bit l at next p = rw p
+
+low_number : (l : List ℕ) (at last w v next : ℕ) → w ≡ width_of last → v ≤ last → bit_field l at w ≡ Ok (v, next)
+    → whole_number l at 0 last ≡ Ok (v, next)
+unfolding whole_number
+low_number l at last w v next pw h p =
+    let d : last - 0 ≡ last = omega arith in
+    let z : 0 + v ≡ v = omega arith in
+    rw (d, ← pw, p, z, le-leb v last h)
+
 -- the index that is read with its extension bit
-pub index_read : (l : List ℕ) (at last w v next : ℕ) (r : Read) → last < 2 ^ 64 → w ≡ width_of last
-    → r ≡ read_bits l at (1 + w) → r ≡ read.Number v next → v ≤ last → Value v next ≡ extensible_index l at last
+pub index_read : (l : List ℕ) (at last w v next : ℕ) (r : Option (ℕ × ℕ)) → last < 2 ^ 64 → w ≡ width_of last
+    → r ≡ read_bits l at (1 + w) → r ≡ Some (v, next) → v ≤ last → Ok (v, next) ≡ extensible_index l at last
 unfolding extensible_index
 index_read l at last w v next r small pw p q h =
     let s = said l at (1 + w) v next (sym p ∙ q) in
@@ -76,16 +88,13 @@ index_read l at last w v next r small pw p q h =
     let z = none_above (num_of (take 1 (drop at l))) (2 ^ w) (num_of (take w (drop (at + 1) l))) v
     (s.value ∙ in_two l at w s.there) (omega (arith, low, h)) in
     let n : next ≡ at + 1 + w = s.place ∙ omega arith in
-    let bit = field_value l at 1 (num_of (take 1 (drop at l))) (at + 1) (read_bits l at 1) refl
-    (sym (reads l at 1 (omega arith) (omega (arith, s.there)))) in
-    let clear : Value 0 (at + 1) ≡ extension_bit l at = ext_clear l at (bit_field l at 1) refl _ (at + 1) (sym bit) z.0 in
-    let index = field_value l (at + 1) w (num_of (take w (drop (at + 1) l))) (at + 1 + w) (read_bits l (at + 1) w) refl
-    (sym (reads l (at + 1) w (omega (arith, s.most)) (omega (arith, s.there)))) in
-    let found : Value (0 + v) (at + 1 + w) ≡ whole_number l (at + 1) 0 last = whole_in l (at + 1) 0 last w last
-    (bit_field l (at + 1) w) refl pw (omega arith) v (at + 1 + w)
-    (sym index ∙ ap (λ (x : ℕ). Value x (at + 1 + w)) z.1) (omega arith) in
-    let o : 0 + v ≡ v = omega arith in
-    went (extension_bit l at) _ _ 0 (at + 1) _ refl (sym clear) (rw n (rw o at found))
+    let bit : bit_field l at 1 ≡ Ok (0, at + 1) = rw z.0 at
+    (field_value l at 1 (num_of (take 1 (drop at l))) (at + 1) (reads l at 1 (omega arith) (omega (arith, s.there)))) in
+    let index : bit_field l (at + 1) w ≡ Ok (v, at + 1 + w) = rw z.1 at
+    (field_value l (at + 1) w (num_of (take w (drop (at + 1) l))) (at + 1 + w) (reads l (at + 1) w (omega (arith, s.most)) (omega (arith, s.there)))) in
+    let clear : extension_bit l at ≡ Ok (0, at + 1) = clear_bit l at (at + 1) bit in
+    let found : whole_number l (at + 1) 0 last ≡ Ok (v, at + 1 + w) = low_number l (at + 1) last w v (at + 1 + w) pw h index in
+    rw (clear, found, n)
 
 -- ---- the index written with its extension bit
 

@@ -2,7 +2,7 @@
 -- call that is not refused.
 -- Assumes nothing.
 use mathlib.Core.Path.{◌≡◌}
-use Prim.Native.Nat.{ℕ, ◌+◌, ◌*◌, ◌/◌, ◌%◌, ◌<◌}
+use Prim.Native.Nat.{ℕ, ◌*◌, ◌/◌, ◌%◌, ◌<◌}
 use native.Mathlib.Omega.{arith}
 use Rattle.fields.specs.Refusals.{number_of, packed}
 use Rattle.fields.specs.declared.Fault.{Fault}

@@ -14,8 +14,8 @@ use Rattle.bits.proofs.Reading.{is_short}
 use Rattle.fields.specs.Fields.{refused_at, then, bit_field, extension_bit, width_of, whole_number, extensible_index, length_at, length_within, string_at, sized_at}
 use Rattle.fields.specs.declared.Refusal.{Refusal}
 use Rattle.fields.specs.declared.Fault.TheVariants.{Short}
-use Rattle.fields.specs.declared.Field.TheVariants.{Refused}
 use Rattle.fields.proofs.Widths.{width_most}
+use Rattle.std.specs.Prelude.{Err}
 
 pub field_ends : (l : List ℕ) (at n : ℕ) → n ≤ 64 → length l < at + n → bit_field l at n ≡ refused_at at Short
 unfolding bit_field
@@ -34,22 +34,22 @@ unfolding length_at
 length_ends l at h = rw (field_ends l at 8 (omega arith) h)
 
 -- the extension bit before the index
-pub extension_first : (l : List ℕ) (at last : ℕ) (r : Refusal) → extension_bit l at ≡ Refused r → extensible_index l at last ≡ Refused r
+pub extension_first : (l : List ℕ) (at last : ℕ) (r : Refusal) → extension_bit l at ≡ Err r → extensible_index l at last ≡ Err r
 unfolding extensible_index
 extension_first l at last r e = rw e
 
 -- the form of a length before its limits
-pub form_first : (l : List ℕ) (at least most : ℕ) (r : Refusal) → length_at l at ≡ Refused r → length_within l at least most ≡ Refused r
+pub form_first : (l : List ℕ) (at least most : ℕ) (r : Refusal) → length_at l at ≡ Err r → length_within l at least most ≡ Err r
 unfolding length_within
 form_first l at least most r e = rw e
 
 -- a length before the contents that it counts
-pub length_first : (l : List ℕ) (at unit least most : ℕ) (r : Refusal) → length_within l at least most ≡ Refused r
-    → string_at l at unit least most ≡ Refused r
+pub length_first : (l : List ℕ) (at unit least most : ℕ) (r : Refusal) → length_within l at least most ≡ Err r
+    → string_at l at unit least most ≡ Err r
 unfolding string_at
 length_first l at unit least most r e = rw e
 
-pub size_first : (l : List ℕ) (at unit least most : ℕ) (r : Refusal) → whole_number l at least most ≡ Refused r
-    → sized_at l at unit least most ≡ Refused r
+pub size_first : (l : List ℕ) (at unit least most : ℕ) (r : Refusal) → whole_number l at least most ≡ Err r
+    → sized_at l at unit least most ≡ Err r
 unfolding sized_at
 size_first l at unit least most r e = rw e

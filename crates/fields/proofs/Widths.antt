@@ -1,12 +1,12 @@
 -- Laws of the fewest bits that hold a number.
 -- Assumes nothing.
-use mathlib.Core.Path.{◌≡◌, refl, ap, sym, ◌∙◌}
-use Prim.Native.Nat.{ℕ, zero, suc, ◌+◌, ◌-◌, ◌*◌, ◌/◌, ◌^◌, ◌≤◌, ◌<◌}
+use mathlib.Core.Path.{◌≡◌, refl}
+use Prim.Native.Nat.{ℕ, zero, suc, ◌+◌, ◌-◌, ◌/◌, ◌^◌, ◌≤◌, ◌<◌}
 use native.Mathlib.Omega.{arith}
 use native.Mathlib.Decide.{dec_lt}
 use lib.Pow.{pow_mono}
-use lib.Count.{count_leading_zeros, leading_length, leading_top, leading_le}
-use Rattle.fields.specs.Fields.{digits_in, width_of}
+use lib.Count.{count_leading_zeros, leading_length, leading_top}
+use Rattle.fields.specs.Fields.{digits_in}
 
 pub leading_digits : (k n : ℕ) → count_leading_zeros k n + digits_in k n ≡ k
 unfolding count_leading_zeros digits_in

@@ -1,31 +1,26 @@
 -- Laws of the writers' answers, as the code has them.
 -- Assumes nothing.
 use mathlib.Core.Path.{◌≡◌, refl, ap, sym, ◌∙◌}
-use mathlib.Core.Bool.{Bool, true, false, cond, ◌&&◌}
+use mathlib.Core.Bool.{Bool, true, false, ◌&&◌}
 use mathlib.Core.List.{List, ◌++◌, append_assoc}
 use Prim.Native.Nat.{ℕ, ◌+◌, ◌-◌, ◌*◌, ◌^◌, ◌≤◌, ◌<◌}
 use native.Mathlib.Omega.{arith}
-use borrow.Author.Tests.{le-leb, lt-leb, le-ltb, lt-ltb, leb-true, leb-false}
-use lib.Dec.{leb, ltb}
+use borrow.Author.Tests.{le-leb, lt-leb, le-ltb, lt-ltb, leb-true}
+use lib.Dec.{leb}
 use lib.ListN.{length, length-append}
 use lib.Pow.{pow-add}
 use lib.Arith.{digits_lt}
 use Rattle.bits.specs.Bits.{bits_n, bits_to, run}
-use Rattle.bits.specs.Put.{Left, left, put_run, put_if, put_number, put_led}
-use Rattle.bits.specs.declared.Put.{Put}
-use Rattle.bits.specs.declared.Put.TheVariants.{Next, Full}
+use Rattle.bits.specs.Put.{Left, left, put_if, put_number, put_led}
 use Rattle.bits.proofs.Numbers.{length_bits_n}
-use Rattle.bits.proofs.Bytes.{length_run, length_to}
 use Rattle.bits.proofs.Inside.{Within}
 use Rattle.bits.proofs.Putting.{put_full, put_if_yes, put_if_no, put_then}
 use Rattle.bits.proofs.Joining.{bits_n_join}
-use Rattle.fields.specs.Fields.{width_of, run_at}
+use Rattle.fields.specs.Fields.{width_of}
 use Rattle.fields.specs.Encodings.{led_fits, whole_fits, whole_bits, index_bits, length_fits, length_bits}
-use Rattle.fields.specs.declared.Field.{Field}
-use Rattle.fields.specs.declared.Field.TheVariants.{Value, Refused}
-use Rattle.fields.specs.declared.Refusal.{Refusal}
-use Rattle.fields.proofs.Answers.{run_is, run_not}
+use Rattle.fields.proofs.Answers.{past_all}
 use Rattle.fields.proofs.Widths.{width_most, width_holds}
+use Rattle.std.specs.Prelude.{None, Option}
 
 -- a field that is a number in n bits
 pub as_number : (s : List ℕ) (e at n v : ℕ) (ok : Bool) (bs : List ℕ) → n ≤ 64 → v < 2 ^ n → ok ≡ true → bs ≡ bits_n n v
@@ -33,12 +28,12 @@ pub as_number : (s : List ℕ) (e at n v : ℕ) (ok : Bool) (bs : List ℕ) → 
 unfolding put_number
 as_number s e at n v ok bs h g p q = rw (le-leb n 64 h, lt-ltb v (2 ^ n) g, p, q)
 
-pub refused : (s : List ℕ) (e at : ℕ) (ok : Bool) (bs : List ℕ) → ok ≡ false → left Full s ≡ put_if ok s e at bs
+pub refused : (s : List ℕ) (e at : ℕ) (ok : Bool) (bs : List ℕ) → ok ≡ false → left None s ≡ put_if ok s e at bs
 refused s e at ok bs p = sym (put_if_no ok s e at bs p)
 
 -- the first run fits, but not both
 pub no_room : (s : List ℕ) (e at : ℕ) (ok : Bool) (bs : List ℕ) → ok ≡ true
-    → leb (at + length bs) (length (bits_to s e)) ≡ false → left Full s ≡ put_if ok s e at bs
+    → leb (at + length bs) (length (bits_to s e)) ≡ false → left None s ≡ put_if ok s e at bs
 no_room s e at ok bs p h = sym (put_if_yes ok s e at bs p ∙ put_full s e at bs h)
 
 -- so many bits are more than are left
@@ -57,13 +52,12 @@ above_high lo hi v h g = rw (le-leb lo v h, lt-leb v hi g)
 pub in_range : (lo hi v : ℕ) → lo ≤ v → v ≤ hi → whole_fits lo hi v ≡ true
 in_range lo hi v h g = rw (le-leb lo v h, le-leb v hi g)
 
-pub whole_put : (s : List ℕ) (o : Left) (e at lo hi v w d : ℕ) → hi < 2 ^ 64 → lo ≤ v → v ≤ hi → w ≡ width_of d
-    → d ≡ hi - lo → o ≡ put_number s e at w (v - lo) → o ≡ put_if (whole_fits lo hi v) s e at (whole_bits lo hi v)
+pub whole_put : (s : List ℕ) (o : Left) (e at lo hi v w : ℕ) → hi < 2 ^ 64 → lo ≤ v → v ≤ hi → w ≡ width_of (hi - lo)
+    → o ≡ put_number s e at w (v - lo) → o ≡ put_if (whole_fits lo hi v) s e at (whole_bits lo hi v)
 unfolding whole_bits
-whole_put s o e at lo hi v w d b h g pw pd p =
-    let z : w ≡ width_of (hi - lo) = pw ∙ ap width_of pd in
+whole_put s o e at lo hi v w b h g pw p =
     let k : hi - lo < 2 ^ width_of (hi - lo) = width_holds 64 (hi - lo) (omega arith) in
-    p ∙ ap (λ (n : ℕ). put_number s e at n (v - lo)) z
+    p ∙ ap (λ (n : ℕ). put_number s e at n (v - lo)) pw
     ∙ as_number s e at (width_of (hi - lo)) (v - lo) (whole_fits lo hi v) _ (width_most 64 (hi - lo)) (omega arith)
     (in_range lo hi v h g) refl
 
@@ -78,7 +72,7 @@ length_index last i =
     rw (length-append, length_bits_n, length_whole, e)
 
 -- the extension bit, then the index
-pub index_put : (s z : List ℕ) (o : Left) (r : Put) (e at last i w : ℕ) → i ≤ last → w ≡ width_of last
+pub index_put : (s z : List ℕ) (o : Left) (r : Option ℕ) (e at last i w : ℕ) → i ≤ last → w ≡ width_of last
     → Within s e at (1 + w) → left r z ≡ put_if true s e at (bits_n 1 0)
     → o ≡ put_if (whole_fits 0 last i) z e (at + 1) (whole_bits 0 last i)
     → o ≡ put_if (whole_fits 0 last i) s e at (index_bits last i)
@@ -155,25 +149,17 @@ module _ (s src : List ℕ) (o : Left) (e at lead led f from c : ℕ) (h : lead 
         b,
       )
 
-pub led_string_put : (s src : List ℕ) (o : Left) (e at lead led unit n f from : ℕ) → lead ≤ 8 → led < 2 ^ lead → unit ≤ 64 → n < 16384
-    → o ≡ put_if (leb (from + unit * n) (length (bits_to src f))) s e at (bits_n lead led ++ (length_bits n ++ run src from (unit * n)))
-    → o ≡ put_if (led_fits lead led unit && (length_fits n && leb (from + unit * n) (length (bits_to src f)))) s e at
-    (bits_n lead led ++ (length_bits n ++ run src from (unit * n)))
-led_string_put s src o e at lead led unit n f from h g k small p = p ∙ rw (led_fits_is lead led unit h g k, lt-ltb n 16384 small)
+-- a string of any size, with no number before its length
+pub string_put : (s src : List ℕ) (o : Left) (e at n f from c : ℕ) → n < 16384
+    → o ≡ put_if (leb (from + c) (length (bits_to src f))) s e at (bits_n 0 0 ++ (length_bits n ++ run src from c))
+    → o ≡ put_if (length_fits n && leb (from + c) (length (bits_to src f))) s e at (length_bits n ++ run src from c)
+unfolding bits_n
+string_put s src o e at n f from c small k = k ∙ rw (lt-ltb n 16384 small)
 
-module _ (s src : List ℕ) (e at unit n f from : ℕ) (small : n < 16384) (r : Field) (pr : r ≡ run_at (bits_to src f) from (unit * n) n) where
-  pub not_there : (x : Refusal) → r ≡ Refused x
-      → left Full s ≡ put_if (length_fits n && leb (from + unit * n) (length (bits_to src f))) s e at (length_bits n ++ run src from (unit * n))
-  not_there x q = refused s e at _ _ (rw (lt-ltb n 16384 small) (run_not (bits_to src f) from (unit * n) n x (sym pr ∙ q)))
+and_no : (b : Bool) → b && false ≡ false
+and_no true = refl
+and_no false = refl
 
-  module _ (v after : ℕ) (q : r ≡ Value v after) where
-    pub there : after ≡ from + unit * n
-    there = (run_is (bits_to src f) from (unit * n) n v after (sym pr ∙ q)).place
-
-    pub string_put : (o : Left) (c : ℕ) → c ≡ after - from
-        → o ≡ put_if (leb (from + c) (length (bits_to src f))) s e at (bits_n 0 0 ++ (length_bits n ++ run src from c))
-        → o ≡ put_if (length_fits n && leb (from + unit * n) (length (bits_to src f))) s e at (length_bits n ++ run src from (unit * n))
-    unfolding bits_n
-    string_put o c pc k =
-        let z : c ≡ unit * n = pc ∙ omega (arith, there) in
-        (rw z at k) ∙ rw (lt-ltb n 16384 small)
+pub not_there : (s src : List ℕ) (e at n f from c : ℕ) (bs : List ℕ) → f < c
+    → left None s ≡ put_if (length_fits n && leb (from + c) (length (bits_to src f))) s e at bs
+not_there s src e at n f from c bs h = refused s e at _ _ (rw (past_all src f from c h) (and_no (length_fits n)))

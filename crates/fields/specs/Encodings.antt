@@ -1,5 +1,5 @@
 -- The bits of a field's value, and which values a field has.
-use Rattle.std.specs.Prelude.{ℕ, ◌+◌, ◌-◌, ◌*◌, ◌^◌, List, ◌++◌, Bool, cond, ◌&&◌, leb, ltb, eqb}
+use Rattle.std.specs.Prelude.{ℕ, ◌+◌, ◌-◌, ◌^◌, List, ◌++◌, Bool, cond, ◌&&◌, leb, ltb, eqb}
 use Rattle.bits.specs.Bits.{bits_n}
 use Rattle.fields.specs.Fields.{width_of}
 

@@ -6,51 +6,40 @@ ghost use Rattle.fields.specs.Encodings.{length_bits, length_fits};
 ghost use Rattle.fields.specs.Fields.{length_at, length_within};
 
 use crate::numbers::{bit_field, refused_at};
-use crate::{Fault, Field};
-use bits::Put;
+use crate::{Fault, Reading};
 
 // A length in its shortest form.
-pub fn length(s: &[u8], end: usize, at: usize) -> Field
+#[tactic(auto, unfolding(crate::specs::Fields::length_at))]
+pub fn length(s: &[u8], end: usize, at: usize) -> Reading<u64>
     ensures { result ≡ length_at (bits_to s.now end) at }
 {
-    let first = bit_field(s, end, at, 8);
-    let Field::Value(b, _) = first else {
-        return first;
-    };
+    let (b, next) = bit_field(s, end, at, 8)?;
     if b < 128 {
-        return first;
+        return Ok((b, next));
     }
     if 192 <= b {
         return refused_at(at, Fault::LengthForm);
     }
-    let both = bit_field(s, end, at, 16);
-    let Field::Value(v, last) = both else {
-        return both;
-    };
+    let (v, last) = bit_field(s, end, at, 16)?;
     if v < 32768 + 128 {
         return refused_at(at, Fault::LengthForm);
     }
-    Field::Value(v - 32768, last)
+    Ok((v - 32768, last))
 }
 
 // A length from least to most.
-pub fn length_within(s: &[u8], end: usize, at: usize, least: u64, most: u64) -> Field
+#[tactic(auto, unfolding(crate::specs::Fields::length_within))]
+pub fn length_within(s: &[u8], end: usize, at: usize, least: u64, most: u64) -> Reading<u64>
     ensures { result ≡ length_within (bits_to s.now end) at least most }
 {
-    let any = length(s, end, at);
-    let Field::Value(n, _) = any else {
-        return any;
-    };
-    if n < least {
+    let (n, next) = length(s, end, at)?;
+    if n < least || most < n {
         return refused_at(at, Fault::Limit);
     }
-    if most < n {
-        return refused_at(at, Fault::Limit);
-    }
-    any
+    Ok((n, next))
 }
 
-pub fn put_length(buf: &mut [u8], end: usize, at: usize, n: u64) -> Put
+pub fn put_length(buf: &mut [u8], end: usize, at: usize, n: u64) -> Option<usize>
     ensures { left result buf.new ≡ put_if (length_fits n) buf.old end at (length_bits n) }
 {
     if n < 128 {
@@ -59,5 +48,5 @@ pub fn put_length(buf: &mut [u8], end: usize, at: usize, n: u64) -> Put
     if n < 16384 {
         return bits::put_bits(buf, end, at, 16, 32768 + n);
     }
-    Put::Full
+    None
 }

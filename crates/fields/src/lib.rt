@@ -15,21 +15,21 @@ pub use later::{addition_count, additions, additions_there};
 pub use lengths::{length, length_within, put_length};
 pub use numbers::{
     bit_field, extensible_index, extension_bit, put_extensible_index, put_extension_bit, put_whole,
-    refusal_of, refused_at, whole, width,
+    refused_at, whole, width,
 };
 pub use strings::{Lead, contents, put_led_string, put_string, sized, string};
 
-// What a decoder refuses for: document 01, 10 to 17.
+// What a decoder refuses for, with the number that document 01 gives it.
 #[derive(Clone, Copy)]
 pub enum Fault {
-    Short,
-    Range,
-    Extension,
-    LengthForm,
-    Limit,
-    Tail,
-    NotCarried,
-    Default,
+    Short = 10,
+    Range = 11,
+    Extension = 12,
+    LengthForm = 13,
+    Limit = 14,
+    Tail = 15,
+    NotCarried = 16,
+    Default = 17,
 }
 
 // A refusal: the fault, and the bit at which its field begins. Of TAIL it is the first bit that should not be there. The count begins with the first
@@ -41,44 +41,27 @@ pub struct Refusal {
 }
 
 impl Refusal {
-    // What takes a refusal out of an answer says this where the answer is a value, which does not come there.
-    pub const NONE: Refusal = Refusal {
-        fault: Fault::Short,
-        at: 0,
-    };
     // The places that the answer of a call has room for: 56 bits.
     const PLACES: usize = 72057594037927936;
 }
 
-// What reading a field finds: its value and the place after it, or the refusal. The value of contents is their count of items;
-// they end at the place after them.
-#[derive(Drop)]
-pub enum Field {
-    Value(u64, usize),
-    Refused(Refusal),
-}
+// What reading finds: a value and the place after it, or the refusal. The value of contents is their count of items; they end at the place
+// after them.
+pub type Reading<T> = Result<(T, usize), Refusal>;
 
 // The number that document 01 gives a fault.
+#[tactic(auto, unfolding(crate::specs::Refusals::number_of))]
 pub fn number(f: Fault) -> u64
     ensures { result ≡ number_of f }
 {
-    match f {
-        Fault::Short => 10,
-        Fault::Range => 11,
-        Fault::Extension => 12,
-        Fault::LengthForm => 13,
-        Fault::Limit => 14,
-        Fault::Tail => 15,
-        Fault::NotCarried => 16,
-        Fault::Default => 17,
-    }
+    f as u64
 }
 
 // What a call answers that refuses for a fault in bits: the number, and the place above it.
+#[tactic(auto, using(crate::proofs::Numbering::number_low), unfolding(crate::specs::Refusals::packed))]
 pub fn packed(r: Refusal) -> u64
     ensures { result ≡ packed r }
 {
-    let fault = r.fault;
     let place = r.at % Refusal::PLACES;
-    number(fault) + 256 * place as u64
+    number(r.fault) + 256 * place as u64
 }

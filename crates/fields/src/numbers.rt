@@ -1,50 +1,38 @@
 // Fields that are one number: bits, extension bits, whole numbers in a range, indices.
-ghost use Rattle.std.specs.Prelude.{◌≡◌, true, ◌+◌, ◌-◌};
+ghost use Rattle.std.specs.Prelude.{◌≡◌, true};
 ghost use Rattle.bits.specs.Bits.{bits_n, bits_to};
 ghost use Rattle.bits.specs.Put.{left, put_if};
 ghost use Rattle.fields.specs.Encodings.{index_bits, whole_bits, whole_fits};
-ghost use Rattle.fields.specs.Fields.{bit_field, extensible_index, extension_bit, refusal_of, refused_at, whole_number, width_of};
+ghost use Rattle.fields.specs.Fields.{bit_field, extensible_index, extension_bit, refused_at, whole_number, width_of};
 
-use crate::{Fault, Field, Refusal};
-use bits::{Put, Read};
+use crate::{Fault, Reading, Refusal};
 
 // The refusal of the field that begins at a place: every refusal of decoding is made here.
-pub fn refused_at(at: usize, fault: Fault) -> Field
+pub fn refused_at<T>(at: usize, fault: Fault) -> Result<T, Refusal>
     ensures { result ≡ refused_at at fault }
 {
-    Field::Refused(Refusal { fault, at })
-}
-
-// The refusal in an answer that is one.
-pub fn refusal_of(f: Field) -> Refusal
-    ensures { result ≡ refusal_of f }
-{
-    match f {
-        Field::Value(_, _) => Refusal::NONE,
-        Field::Refused(r) => r,
-    }
+    Err(Refusal { fault, at })
 }
 
 // A field of n bits.
-pub fn bit_field(s: &[u8], end: usize, at: usize, n: usize) -> Field
+#[tactic(auto, unfolding(crate::specs::Fields::bit_field))]
+pub fn bit_field(s: &[u8], end: usize, at: usize, n: usize) -> Reading<u64>
     ensures { result ≡ bit_field (bits_to s.now end) at n }
 {
-    let Read::Number(v, next) = bits::read_bits(s, end, at, n) else {
-        return refused_at(at, Fault::Short);
-    };
-    Field::Value(v, next)
+    match bits::read_bits(s, end, at, n) {
+        Some(number) => Ok(number),
+        None => refused_at(at, Fault::Short),
+    }
 }
 
 // An extension bit: 1 is refused.
-pub fn extension_bit(s: &[u8], end: usize, at: usize) -> Field
+#[tactic(auto, unfolding(crate::specs::Fields::extension_bit))]
+pub fn extension_bit(s: &[u8], end: usize, at: usize) -> Reading<u64>
     ensures { result ≡ extension_bit (bits_to s.now end) at }
 {
-    let bit = bit_field(s, end, at, 1);
-    let Field::Value(b, next) = bit else {
-        return bit;
-    };
+    let (b, next) = bit_field(s, end, at, 1)?;
     if b == 0 {
-        return Field::Value(0, next);
+        return Ok((0, next));
     }
     refused_at(at, Fault::Extension)
 }
@@ -53,101 +41,84 @@ pub fn extension_bit(s: &[u8], end: usize, at: usize) -> Field
 pub fn width(n: u64) -> usize
     ensures { result ≡ width_of n }
 {
-    64 - u64::leading_zeros(n) as usize
-}
-
-// How far hi lies above lo; 0 where it does not.
-fn above(lo: u64, hi: u64) -> u64
-    ensures { result ≡ hi - lo }
-{
-    if lo <= hi { hi - lo } else { 0 }
+    64 - n.leading_zeros() as usize
 }
 
 // A whole number from lo to hi.
-pub fn whole(s: &[u8], end: usize, at: usize, lo: u64, hi: u64) -> Field
+#[tactic(auto, unfolding(crate::specs::Fields::whole_number))]
+pub fn whole(s: &[u8], end: usize, at: usize, lo: u64, hi: u64) -> Reading<u64>
     ensures { result ≡ whole_number (bits_to s.now end) at lo hi }
 {
-    let distance = bit_field(s, end, at, width(above(lo, hi)));
-    let Field::Value(d, next) = distance else {
-        return distance;
-    };
-    if hi < lo {
+    let (d, next) = bit_field(s, end, at, width(hi.saturating_sub(lo)))?;
+    if hi < lo || hi - lo < d {
         return refused_at(at, Fault::Range);
     }
-    if hi - lo < d {
-        return refused_at(at, Fault::Range);
-    }
-    Field::Value(lo + d, next)
+    Ok((lo + d, next))
 }
 
 // An extension bit, and then an index.
-fn index_by_fields(s: &[u8], end: usize, at: usize, last: u64) -> Field
+#[tactic(auto, unfolding(crate::specs::Fields::extensible_index))]
+fn index_by_fields(s: &[u8], end: usize, at: usize, last: u64) -> Reading<u64>
     ensures { result ≡ extensible_index (bits_to s.now end) at last }
 {
-    let bit = extension_bit(s, end, at);
-    let Field::Value(_, next) = bit else {
-        return bit;
-    };
+    let (_, next) = extension_bit(s, end, at)?;
     whole(s, end, next, 0, last)
 }
 
 // The index of an extensible CHOICE or ENUMERATED type whose last index is `last`: as one number with its extension bit, or field by field,
 // which names the fault.
-pub fn extensible_index(s: &[u8], end: usize, at: usize, last: u64) -> Field
+pub fn extensible_index(s: &[u8], end: usize, at: usize, last: u64) -> Reading<u64>
     ensures { result ≡ extensible_index (bits_to s.now end) at last }
 {
-    let both = bits::read_bits(s, end, at, 1 + width(last));
-    let Read::Number(v, next) = both else {
-        return index_by_fields(s, end, at, last);
-    };
-    if v <= last {
-        return Field::Value(v, next);
+    match bits::read_bits(s, end, at, 1 + width(last)) {
+        Some((v, next)) if v <= last => Ok((v, next)),
+        _ => index_by_fields(s, end, at, last),
     }
-    index_by_fields(s, end, at, last)
 }
 
-pub fn put_extension_bit(buf: &mut [u8], end: usize, at: usize) -> Put
+#[tactic(auto, unfolding(bits::specs::Put::put_number))]
+pub fn put_extension_bit(buf: &mut [u8], end: usize, at: usize) -> Option<usize>
     ensures { left result buf.new ≡ put_if true buf.old end at (bits_n 1 0) }
 {
     bits::put_bits(buf, end, at, 1, 0)
 }
 
-pub fn put_whole(buf: &mut [u8], end: usize, at: usize, lo: u64, hi: u64, v: u64) -> Put
+pub fn put_whole(buf: &mut [u8], end: usize, at: usize, lo: u64, hi: u64, v: u64) -> Option<usize>
     ensures { left result buf.new ≡ put_if (whole_fits lo hi v) buf.old end at (whole_bits lo hi v) }
 {
-    if v < lo {
-        return Put::Full;
+    if v < lo || hi < v {
+        return None;
     }
-    if hi < v {
-        return Put::Full;
-    }
-    bits::put_bits(buf, end, at, width(above(lo, hi)), v - lo)
+    bits::put_bits(buf, end, at, width(hi - lo), v - lo)
 }
 
 // An extension bit, and then an index, where both have room.
-fn put_index_by_fields(buf: &mut [u8], end: usize, at: usize, last: u64, i: u64) -> Put
+fn put_index_by_fields(buf: &mut [u8], end: usize, at: usize, last: u64, i: u64) -> Option<usize>
     ensures { left result buf.new ≡ put_if (whole_fits 0 last i) buf.old end at (index_bits last i) }
 {
-    if last < i {
-        return Put::Full;
-    }
-    if bits::within(buf.len(), end, at, 1 + width(last)) {
+    if i <= last && bits::within(buf.len(), end, at, 1 + width(last)) {
         put_extension_bit(buf, end, at);
         return put_whole(buf, end, at + 1, 0, last, i);
     }
-    Put::Full
+    None
 }
 
 // As one number with the extension bit, where a number holds both.
-pub fn put_extensible_index(buf: &mut [u8], end: usize, at: usize, last: u64, i: u64) -> Put
+pub fn put_extensible_index(
+    buf: &mut [u8],
+    end: usize,
+    at: usize,
+    last: u64,
+    i: u64,
+) -> Option<usize>
     ensures { left result buf.new ≡ put_if (whole_fits 0 last i) buf.old end at (index_bits last i) }
 {
     let n = width(last);
-    if n < 64 {
-        if last < i {
-            return Put::Full;
-        }
-        return bits::put_bits(buf, end, at, 1 + n, i);
+    if 64 <= n {
+        return put_index_by_fields(buf, end, at, last, i);
     }
-    put_index_by_fields(buf, end, at, last, i)
+    if last < i {
+        return None;
+    }
+    bits::put_bits(buf, end, at, 1 + n, i)
 }

@@ -7,51 +7,44 @@ ghost use Rattle.fields.specs.Fields.{contents_at, run_at, sized_at, string_at};
 
 use crate::lengths::length_within;
 use crate::numbers::{refused_at, whole};
-use crate::{Fault, Field};
-use bits::Put;
+use crate::{Fault, Reading};
 
-// A run of n items. A count that passes the end by itself is found by division, so that no product wraps.
-pub fn contents(s: &[u8], end: usize, at: usize, unit: usize, n: usize) -> Field
+// A run of n items. A product that no word holds passes every end.
+pub fn contents(s: &[u8], end: usize, at: usize, unit: usize, n: usize) -> Reading<u64>
     ensures { result ≡ contents_at (bits_to s.now end) at unit n }
 {
-    if unit == 0 {
-        return within_end(s, end, at, 0, n);
-    }
-    if end / unit < n {
+    let Some(count) = unit.checked_mul(n) else {
         return refused_at(at, Fault::Short);
-    }
-    within_end(s, end, at, unit * n, n)
+    };
+    within_end(s, end, at, count, n)
 }
 
 // n items in count bits: whether they are there.
-fn within_end(s: &[u8], end: usize, at: usize, count: usize, n: usize) -> Field
+#[tactic(auto, unfolding(crate::specs::Fields::run_at))]
+fn within_end(s: &[u8], end: usize, at: usize, count: usize, n: usize) -> Reading<u64>
     ensures { result ≡ run_at (bits_to s.now end) at count n }
 {
     if bits::within(s.len(), end, at, count) {
-        return Field::Value(n as u64, at + count);
+        return Ok((n as u64, at + count));
     }
     refused_at(at, Fault::Short)
 }
 
 // A string with a length, of which from least to most items are carried.
-pub fn string(s: &[u8], end: usize, at: usize, unit: usize, least: u64, most: u64) -> Field
+#[tactic(auto, unfolding(crate::specs::Fields::string_at))]
+pub fn string(s: &[u8], end: usize, at: usize, unit: usize, least: u64, most: u64) -> Reading<u64>
     ensures { result ≡ string_at (bits_to s.now end) at unit least most }
 {
-    let count = length_within(s, end, at, least, most);
-    let Field::Value(n, from) = count else {
-        return count;
-    };
+    let (n, from) = length_within(s, end, at, least, most)?;
     contents(s, end, from, unit, n as usize)
 }
 
 // A string whose size is from least to most.
-pub fn sized(s: &[u8], end: usize, at: usize, unit: usize, least: u64, most: u64) -> Field
+#[tactic(auto, unfolding(crate::specs::Fields::sized_at))]
+pub fn sized(s: &[u8], end: usize, at: usize, unit: usize, least: u64, most: u64) -> Reading<u64>
     ensures { result ≡ sized_at (bits_to s.now end) at unit least most }
 {
-    let size = whole(s, end, at, least, most);
-    let Field::Value(n, from) = size else {
-        return size;
-    };
+    let (n, from) = whole(s, end, at, least, most)?;
     contents(s, end, from, unit, n as usize)
 }
 
@@ -64,7 +57,7 @@ pub struct Lead {
 
 impl Lead {
     // No bits.
-    const NONE: Lead = Lead {
+    pub const NONE: Lead = Lead {
         width: 0,
         number: 0,
     };
@@ -82,7 +75,7 @@ fn put_counted(
     send: usize,
     from: usize,
     count: usize,
-) -> Put
+) -> Option<usize>
     requires { (lead.width ≤ 8) × (lead.number < 2 ^ lead.width) × (n < 16384) }
     ensures { left result buf.new ≡ put_if (leb (from + count) (length (bits_to src.now send))) buf.old end at (bits_n lead.width lead.number ++ (length_bits n ++ run src.now from count)) }
 {
@@ -106,20 +99,11 @@ pub fn put_led_string(
     src: &[u8],
     send: usize,
     from: usize,
-) -> Put
+) -> Option<usize>
     ensures { left result buf.new ≡ put_if (led_fits lead.width lead.number unit && (length_fits n && leb (from + unit * n) (length (bits_to src.now send)))) buf.old end at (bits_n lead.width lead.number ++ (length_bits n ++ run src.now from (unit * n))) }
 {
-    if 8 < lead.width {
-        return Put::Full;
-    }
-    if (1 << lead.width) <= lead.number {
-        return Put::Full;
-    }
-    if 64 < unit {
-        return Put::Full;
-    }
-    if 16384 <= n {
-        return Put::Full;
+    if 8 < lead.width || (1 << lead.width) <= lead.number || 64 < unit || 16384 <= n {
+        return None;
     }
     put_counted(buf, end, at, lead, n, src, send, from, unit * n)
 }
@@ -134,14 +118,12 @@ pub fn put_string(
     src: &[u8],
     send: usize,
     from: usize,
-) -> Put
+) -> Option<usize>
     ensures { left result buf.new ≡ put_if (length_fits n && leb (from + unit * n) (length (bits_to src.now send))) buf.old end at (length_bits n ++ run src.now from (unit * n)) }
 {
     if 16384 <= n {
-        return Put::Full;
+        return None;
     }
-    let Field::Value(_, after) = contents(src, send, from, unit, n) else {
-        return Put::Full;
-    };
-    put_counted(buf, end, at, Lead::NONE, n, src, send, from, after - from)
+    let count = unit.checked_mul(n)?;
+    put_counted(buf, end, at, Lead::NONE, n, src, send, from, count)
 }

@@ -12,8 +12,6 @@ use Rattle.apdu.specs.Pdus.{lent}
 use Rattle.pdus.specs.declared.PduType.TheVariants as pdu
 use Rattle.apdu.specs.declared.Apdu.{Apdu}
 use Rattle.apdu.specs.declared.Apdu.TheVariants.{AbortUser, AbortProvider, Start, Send, Forward, ForwardResponse}
-use Rattle.apdu.specs.declared.Decoded.{Decoded}
-use Rattle.apdu.specs.declared.Decoded.TheVariants.{Is, Refused}
 use Rattle.codec.specs.Codec.{apdu_at}
 use Rattle.machine.specs.Codes.{success}
 use Rattle.machine.specs.Calls.{security_sent}
@@ -38,6 +36,8 @@ use Rattle.forward_duties.specs.Promise.{ForwardPromise}
 use Rattle.forward_duties.specs.CardWords.{answer_to, card_words}
 use Rattle.forward_duties.proofs.Laws.{Truth, result_of}
 use Rattle.forward_duties.proofs.Theorem.{forwards_hold}
+use Rattle.std.specs.Prelude.{Err, Ok, Result}
+use Rattle.fields.specs.declared.Refusal.{Refusal}
 
 -- ---- what an answer says
 
@@ -49,9 +49,9 @@ says_in (Send d) = false
 says_in (Forward f) = false
 says_in (ForwardResponse x) = eqb x success
 
-abbrev is_said : Decoded → Bool
-is_said (Is a) = says_in a
-is_said (Refused r) = false
+abbrev is_said : Result Apdu Refusal → Bool
+is_said (Ok a) = says_in a
+is_said (Err r) = false
 
 -- the entry that an outcome sends, if it sends one
 abbrev sent_in : Numbered Wire → Outcome Desk (Numbered Wire) → Numbered Wire

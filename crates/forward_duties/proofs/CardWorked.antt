@@ -2,8 +2,8 @@
 -- does not support. (A claim about all runs says nothing of cards that refuse everything.)
 -- Assumes nothing.
 use mathlib.Core.Path.{◌≡◌, refl}
-use mathlib.Core.Bool.{Bool, true, false}
-use mathlib.Core.List.{List, [], ◌∷◌, ◌++◌}
+use mathlib.Core.Bool.{true, false}
+use mathlib.Core.List.{List, [], ◌∷◌}
 use Prim.Native.Nat.{ℕ, zero, suc}
 use native.Mathlib.Omega.{arith}
 use lib.ListN.{replicate}
@@ -18,7 +18,7 @@ use Rattle.apdu.specs.Pdus.{part_in, content_in, pdu_in}
 use Rattle.apdu.specs.Reading.{triple_at, heading_at, forward_within, optional_at, part_at, parts_within, data_within, mode_value, mode_at, kind_mode, leading_at, tail_at, ended_at}
 use Rattle.apdu.specs.Writing.{forward_fits, items_fit, part_fits, data_fits, write_out}
 use Rattle.codec.specs.Codec.{pdu_bits, apdu_fits, rest_at, apdu_at}
-use Rattle.machine.specs.Calls.{reply_of, sent, qos_asked, start_request, start_response, message_request, end_request, end_response, user_abort, call_of, unsent, called}
+use Rattle.machine.specs.Calls.{reply_of, sent, start_request, start_response, message_request, end_request, end_response, user_abort, call_of, unsent, called}
 use Rattle.machine.specs.UserData.{user_data_fits}
 use Rattle.machine.specs.Event.{has_mode, qos_fits, user_fits, service_fits, event_fits}
 use Rattle.machine.specs.Exceptions.{tell, closes, aborts, excepts, timer_expires, system_error, no_instruction}
@@ -39,7 +39,7 @@ use Rattle.pair.specs.Names.{Side}
 use Rattle.pair.specs.Carrier.{hand_over}
 use Rattle.duties.specs.Memory.{told_ended, Notice, note}
 use Rattle.duties.specs.Host.{right}
-use Rattle.forward_duties.specs.Desks.{Desks, deliver, happens, shows, release, Move, job, at, f_run, f_fresh}
+use Rattle.forward_duties.specs.Desks.{deliver, happens, shows, release, Move, job, at, f_run, f_fresh}
 use Rattle.forward_duties.specs.Desks.{answered as gets_answer}
 use Rattle.forward_duties.specs.Promise.{often}
 use Rattle.forward_duties.specs.CardWords.{card_words}

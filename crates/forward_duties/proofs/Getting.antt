@@ -7,8 +7,8 @@ use Prim.Native.Nat.{ℕ, zero, suc, ◌+◌, ◌≤◌, ◌<◌}
 use native.Mathlib.Omega.{arith}
 use borrow.Author.Tests.{eqb-true, ltb-true, ltb-false}
 use lib.Dec.{eqb, ltb}
-use Rattle.pair.specs.Names.{Side, Ground, is_idle, waits}
-use Rattle.pair.specs.Carrier.{Body, nothing, puts, message, Outcome, refused, acts, Sort, begins, breaks, plain, begins?, Step, user_call, hand_over, timer_expires_of, error_reported, turn_away, fail, idle, is_start, starts, discards}
+use Rattle.pair.specs.Names.{Side, Ground, is_idle}
+use Rattle.pair.specs.Carrier.{Body, nothing, puts, message, Outcome, refused, acts, Sort, begins, breaks, plain, begins?, Step, user_call, hand_over, timer_expires_of, error_reported, turn_away, fail, idle, is_start, discards}
 use Rattle.pair.specs.Numbered.{NMachine, NSys, n_swap, n_put, n_left, n_did, n_called, n_off, n_handed_over, n_has_start, n_recalled, n_emptied, n_told_lost}
 use Rattle.pair.proofs.NumberedLines.{self}
 use Rattle.pair.proofs.TwoCentres.{Starts, Quiet, Answers, Refuses, Replied, Centre}

@@ -13,20 +13,18 @@ use Rattle.envelope.specs.Envelopes.{envelope_at, largest, most_bits}
 use Rattle.envelope.specs.declared.EnvelopeRefusal.{EnvelopeRefusal}
 use Rattle.envelope.specs.declared.EnvelopeRefusal.TheVariants.{Cut, Groups, Kind, Size}
 use Rattle.envelope.specs.declared.Envelope.{Envelope}
-use Rattle.envelope.specs.declared.EnvelopeRead.{EnvelopeRead}
-use Rattle.envelope.specs.declared.EnvelopeRead.TheVariants.{Is, Refused}
 use Rattle.envelope.proofs.Numbers.{AllBytes}
 use Rattle.envelope.proofs.Sizes.{largest_is}
-use Rattle.fragments.specs.declared.Taken.{Taken}
 use Rattle.fragments.specs.declared.Taken.TheVariants as taken
-use Rattle.fragments.specs.declared.stored.Loaded.{Loaded}
+use Rattle.fragments.specs.declared.Untaken.TheVariants as untaken
 use Rattle.fragments.specs.declared.stored.Loaded.TheVariants as loaded
-use Rattle.fragments.specs.Mail.{Mail, part, whole, refused, is_cut, unfinished, head, in_record, step, onward, joined, later}
-use Rattle.fragments.specs.Record.{record_bytes, head_at, held_of, held_in, zeros, record_of, count_in, place_in, loaded_by, load_at, After, after, laid, keep, kept, resumed, begun, take_at, cut_short, end_at}
+use Rattle.fragments.specs.Mail.{Taking, Mail, part, whole, refused, is_cut, unfinished, head, in_record, step, onward, joined, later}
+use Rattle.fragments.specs.Record.{Loading, record_bytes, head_at, held_of, held_in, zeros, record_of, count_in, place_in, loaded_by, load_at, After, after, laid, keep, kept, resumed, begun, take_at, cut_short, end_at}
 use Rattle.fragments.proofs.Ranges.{padded_none, zeros_over}
 use Rattle.fragments.proofs.Unfinished.{Sized, lacks, next_within, next_largest, none_open, is_open}
 use Rattle.fragments.proofs.Storing.{loads}
-use Rattle.fragments.proofs.Resuming.{cut_is}
+use Rattle.fragments.proofs.Resuming.{cut_not}
+use Rattle.std.specs.Prelude.{Err, Ok, Result}
 
 -- ---- the limit of today
 
@@ -35,30 +33,29 @@ sized = record { small = lit< tt; least = omega (arith, largest_is); most = omeg
 
 -- ---- with nothing held
 
-module _ (limit : ℕ) (b f : List ℕ) (p : ℕ) (x : EnvelopeRead) (e : x ≡ envelope_at limit f 0) where
-  pub begin_whole : (c d : Envelope) (y z : List ℕ) → x ≡ Is c → c.next ≤ length f → y ≡ sets b head (take c.next f)
+module _ (limit : ℕ) (b f : List ℕ) (p : ℕ) (x : Result Envelope EnvelopeRefusal) (e : x ≡ envelope_at limit f 0) where
+  pub begin_whole : (c d : Envelope) (y z : List ℕ) → x ≡ Ok c → c.next ≤ length f → y ≡ sets b head (take c.next f)
       → z ≡ sets y 0 (head_at 1 c.next p) → d ≡ in_record c
-      → after (taken.Whole d c.next) z ≡ kept limit 0 b (joined limit p [] f)
+      → after (Ok (taken.Whole d c.next)) z ≡ kept limit 0 b (joined limit p [] f)
   unfolding joined kept laid
   begin_whole c d y z q l g h k =
       let o : c.next - 0 ≡ c.next = omega arith in
       rw (← e, q, o, padded_none 0 (take c.next f) (omega arith), ← g, length-take-le c.next f l, ← h, ← k)
 
-  pub begin_part : (r : EnvelopeRefusal) (t : Bool) (y z : List ℕ) → x ≡ Refused r → t ≡ is_cut r → t ≡ true
+  pub begin_part : (r : EnvelopeRefusal) (y z : List ℕ) → x ≡ Err r → r ≡ Cut
       → y ≡ sets b head f → z ≡ sets y 0 (head_at 0 (length f) p)
-      → after (taken.Part (length f)) z ≡ kept limit 0 b (joined limit p [] f)
+      → after (Ok (taken.Part (length f))) z ≡ kept limit 0 b (joined limit p [] f)
   unfolding joined kept laid
-  begin_part r t y z q s u g h = rw (← e, q, ← s, u, padded_none 0 f (omega arith), ← g, ← h)
+  begin_part r y z q k g h = rw (← e, q, k, padded_none 0 f (omega arith), ← g, ← h)
 
-  pub begin_refused : (r : EnvelopeRefusal) (t : Bool) (a : Taken) (z : List ℕ) → x ≡ Refused r → t ≡ is_cut r
-      → t ≡ false → after a z ≡ after (taken.Refused r) (record_of limit (refused r p))
+  pub begin_refused : (r : EnvelopeRefusal) (a : Taking) (z : List ℕ) → x ≡ Err r → (r ≡ Cut → ⊥) → after a z ≡ after (Err (untaken.Refused r)) (record_of limit (refused r p))
       → after a z ≡ kept limit 0 b (joined limit p [] f)
   unfolding joined kept
-  begin_refused r t a z q s u g = g ∙ rw (← e, q, ← s, u)
+  begin_refused r a z q k g = g ∙ rw (← e, q, cut_not r k)
 
-pub begin_cut : (limit : ℕ) (f : List ℕ) (x : EnvelopeRead) (r : EnvelopeRefusal) (t : Bool) → x ≡ envelope_at limit f 0
-    → x ≡ Refused r → t ≡ is_cut r → t ≡ true → envelope_at limit f 0 ≡ Refused Cut
-begin_cut limit f x r t e q s u = sym e ∙ (q ∙ ap Refused (cut_is r (sym s ∙ u)))
+pub begin_cut : (limit : ℕ) (f : List ℕ) (x : Result Envelope EnvelopeRefusal) (r : EnvelopeRefusal) → x ≡ envelope_at limit f 0
+    → x ≡ Err r → r ≡ Cut → envelope_at limit f 0 ≡ Err Cut
+begin_cut limit f x r e q k = sym e ∙ (q ∙ ap Err k)
 
 -- ---- zeros over what was finished, and then from nothing
 
@@ -78,23 +75,23 @@ joined_fits : (limit : ℕ) → Sized limit → (p : ℕ) (f : List ℕ) → All
 unfolding joined
 joined_fits limit z p f b = go (envelope_at limit f 0) refl
   where
-    cut : (r : EnvelopeRefusal) → envelope_at limit f 0 ≡ Refused r
-        → length (held_of (cond (is_cut r) (step (taken.Part (length f)) (part p f)) (step (taken.Refused r) (refused r p))).mail) ≤ largest limit
+    cut : (r : EnvelopeRefusal) → envelope_at limit f 0 ≡ Err r
+        → length (held_of (cond (is_cut r) (step (Ok (taken.Part (length f))) (part p f)) (step (Err (untaken.Refused r)) (refused r p))).mail) ≤ largest limit
     cut Cut e = omega (arith, (lacks limit z f b e).room)
     cut Groups e = omega arith
     cut Kind e = omega arith
     cut Size e = omega arith
 
-    go : (x : EnvelopeRead) → envelope_at limit f 0 ≡ x → length (held_of (onward p [] f x).mail) ≤ largest limit
-    go (Is c) e = omega (arith, length-take-le c.next f (next_within limit z f b c e), next_largest limit z f b c e)
-    go (Refused r) e = cut r e
+    go : (x : Result Envelope EnvelopeRefusal) → envelope_at limit f 0 ≡ x → length (held_of (onward p [] f x).mail) ≤ largest limit
+    go (Ok c) e = omega (arith, length-take-le c.next f (next_within limit z f b c e), next_largest limit z f b c e)
+    go (Err r) e = cut r e
 
 module _ (limit : ℕ) (z : Sized limit) (b f : List ℕ) (n p : ℕ) (size : length b ≡ record_bytes limit) (count : n ≤ largest limit) (bytes : AllBytes f) where
-  pub begun_none : length f ≡ 0 → after (taken.Part 0) b ≡ begun limit b n p f
+  pub begun_none : length f ≡ 0 → after (Ok (taken.Part 0)) b ≡ begun limit b n p f
   unfolding begun
   begun_none h = rw (eq-eqb (length f) 0 h)
 
-  pub begun_more : (y w : List ℕ) (q : ℕ) (a : Taken) → (length f ≡ 0 → ⊥) → y ≡ sets b head (zeros n) → q ≡ later p n
+  pub begun_more : (y w : List ℕ) (q : ℕ) (a : Taking) → (length f ≡ 0 → ⊥) → y ≡ sets b head (zeros n) → q ≡ later p n
       → after a w ≡ kept limit 0 y (joined limit q [] f) → after a w ≡ begun limit b n p f
   unfolding begun kept
   begun_more y w q a h e g k =
@@ -105,14 +102,14 @@ module _ (limit : ℕ) (z : Sized limit) (b f : List ℕ) (n p : ℕ) (size : le
             (omega (arith, joined_fits limit z (later p n) f bytes)),
       )
 
-  pub resume_none : (w : List ℕ) (a : Taken) → n ≡ 0 → after a w ≡ kept limit 0 b (joined limit p [] f) → after a w ≡ resumed limit b n p f
+  pub resume_none : (w : List ℕ) (a : Taking) → n ≡ 0 → after a w ≡ kept limit 0 b (joined limit p [] f) → after a w ≡ resumed limit b n p f
   unfolding resumed
   resume_none w a h k = k ∙ rw (h, is_open limit [] (none_open limit))
 
 -- ---- what was loaded
 
 part_count : (t₀ t₁ t₂ t₃ t₄ t₅ : Bool) (k q n p : ℕ)
-    → cond t₀ (loaded.Part k q) (cond t₁ (loaded.Whole k q) (cond t₂ (loaded.Refused Cut) (cond t₃ (loaded.Refused Groups) (cond t₄ (loaded.Refused Kind) (cond t₅ (loaded.Refused Size) loaded.NoRecord))))) ≡ loaded.Part n p
+    → cond t₀ (Ok (loaded.Part k q)) (cond t₁ (Ok (loaded.Whole k q)) (cond t₂ (Err (untaken.Refused Cut)) (cond t₃ (Err (untaken.Refused Groups)) (cond t₄ (Err (untaken.Refused Kind)) (cond t₅ (Err (untaken.Refused Size)) (Err untaken.Shape)))))) ≡ Ok (loaded.Part n p)
     → n ≡ k
 part_count true t₁ t₂ t₃ t₄ t₅ k q n p e = cc
 part_count false true t₂ t₃ t₄ t₅ k q n p e = let z : ◌≡◌ {A = ℕ} 0 1 = cc in absurd (omega arith)
@@ -123,7 +120,7 @@ part_count false false false false false true k q n p e = let z : ◌≡◌ {A =
 part_count false false false false false false k q n p e = let z : ◌≡◌ {A = ℕ} 0 1 = cc in absurd (omega arith)
 
 whole_count : (t₀ t₁ t₂ t₃ t₄ t₅ : Bool) (k q n p : ℕ)
-    → cond t₀ (loaded.Part k q) (cond t₁ (loaded.Whole k q) (cond t₂ (loaded.Refused Cut) (cond t₃ (loaded.Refused Groups) (cond t₄ (loaded.Refused Kind) (cond t₅ (loaded.Refused Size) loaded.NoRecord))))) ≡ loaded.Whole n p
+    → cond t₀ (Ok (loaded.Part k q)) (cond t₁ (Ok (loaded.Whole k q)) (cond t₂ (Err (untaken.Refused Cut)) (cond t₃ (Err (untaken.Refused Groups)) (cond t₄ (Err (untaken.Refused Kind)) (cond t₅ (Err (untaken.Refused Size)) (Err untaken.Shape)))))) ≡ Ok (loaded.Whole n p)
     → n ≡ k
 whole_count true t₁ t₂ t₃ t₄ t₅ k q n p e = let z : ◌≡◌ {A = ℕ} 0 1 = cc in absurd (omega arith)
 whole_count false true t₂ t₃ t₄ t₅ k q n p e = cc
@@ -138,62 +135,41 @@ pub record Holds (limit : ℕ) (b : List ℕ) (n : ℕ) : Type 0 where
   pub size : length b ≡ record_bytes limit
   pub count : n ≤ largest limit
 
-module _ (limit : ℕ) (b : List ℕ) (x : Loaded) (e : x ≡ load_at limit b) where
-  pub holds_part : (n p : ℕ) → x ≡ loaded.Part n p → Holds limit b n
+module _ (limit : ℕ) (b : List ℕ) (x : Loading) (e : x ≡ load_at limit b) where
+  pub holds_part : (n p : ℕ) → x ≡ Ok (loaded.Part n p) → Holds limit b n
   unfolding loaded_by
   holds_part n p q =
-      let l = loads limit b (loaded.Part n p) (sym e ∙ q) (λ (o : loaded.Part n p ≡ loaded.NoRecord). (let z : ◌≡◌ {A = ℕ} 0 1 = cc in omega arith)) in
+      let l = loads limit b (Ok (loaded.Part n p)) (sym e ∙ q) (λ (o : (Ok (loaded.Part n p)) ≡ Err untaken.Shape). (let z : ◌≡◌ {A = ℕ} 0 1 = cc in omega arith)) in
       record { size = l.size; count = omega (arith, l.count, part_count (eqb (get_or b 0 0) 0) (eqb (get_or b 0 0) 1) (eqb (get_or b 0 0) 20) (eqb (get_or b 0 0) 21) (eqb (get_or b 0 0) 22) (eqb (get_or b 0 0) 23) (count_in b) (place_in b) n p l.by) }
 
-  pub holds_whole : (n p : ℕ) → x ≡ loaded.Whole n p → Holds limit b n
+  pub holds_whole : (n p : ℕ) → x ≡ Ok (loaded.Whole n p) → Holds limit b n
   unfolding loaded_by
   holds_whole n p q =
-      let l = loads limit b (loaded.Whole n p) (sym e ∙ q) (λ (o : loaded.Whole n p ≡ loaded.NoRecord). (let z : ◌≡◌ {A = ℕ} 0 1 = cc in omega arith)) in
+      let l = loads limit b (Ok (loaded.Whole n p)) (sym e ∙ q) (λ (o : (Ok (loaded.Whole n p)) ≡ Err untaken.Shape). (let z : ◌≡◌ {A = ℕ} 0 1 = cc in omega arith)) in
       record { size = l.size; count = omega (arith, l.count, whole_count (eqb (get_or b 0 0) 0) (eqb (get_or b 0 0) 1) (eqb (get_or b 0 0) 20) (eqb (get_or b 0 0) 21) (eqb (get_or b 0 0) 22) (eqb (get_or b 0 0) 23) (count_in b) (place_in b) n p l.by) }
 
   -- ---- `take`
 
-  pub take_part : (f : List ℕ) (n p : ℕ) (o : After) → x ≡ loaded.Part n p → o ≡ resumed limit b n p f → o ≡ take_at limit b f
+  pub take_part : (f : List ℕ) (n p : ℕ) (o : After) → x ≡ Ok (loaded.Part n p) → o ≡ resumed limit b n p f → o ≡ take_at limit b f
   unfolding take_at
   take_part f n p o q g = g ∙ rw (← e, q)
 
-  pub take_whole : (f : List ℕ) (n p : ℕ) (o : After) → x ≡ loaded.Whole n p → o ≡ begun limit b n p f → o ≡ take_at limit b f
+  pub take_whole : (f : List ℕ) (n p : ℕ) (o : After) → x ≡ Ok (loaded.Whole n p) → o ≡ begun limit b n p f → o ≡ take_at limit b f
   unfolding take_at
   take_whole f n p o q g = g ∙ rw (← e, q)
 
-  pub take_refused : (f : List ℕ) (r : EnvelopeRefusal) → x ≡ loaded.Refused r → after (taken.Refused r) b ≡ take_at limit b f
+  pub take_refused : (f : List ℕ) (r : EnvelopeRefusal) → x ≡ Err (untaken.Refused r) → after (Err (untaken.Refused r)) b ≡ take_at limit b f
   unfolding take_at
   take_refused f r q = rw (← e, q)
 
-  pub take_shape : (f : List ℕ) → x ≡ loaded.NoRecord → after taken.Shape b ≡ take_at limit b f
-  unfolding take_at
-  take_shape f q = rw (← e, q)
-
   -- ---- `end`
 
-  pub end_none : (n p : ℕ) → x ≡ loaded.Part n p → n ≡ 0 → after (taken.Part 0) b ≡ end_at limit b
-  unfolding end_at cut_short
-  end_none n p q h = rw (← e, q, eq-eqb n 0 h)
-
-  pub end_cut : (n p : ℕ) (t : Bool) (a : Taken) (z : List ℕ) → x ≡ loaded.Part n p → (n ≡ 0 → ⊥)
+  pub end_cut : (n p : ℕ) (t : Bool) (a : Taking) (z : List ℕ) → x ≡ Ok (loaded.Part n p) → (n ≡ 0 → ⊥)
       → t ≡ unfinished limit (held_in n b) → t ≡ true
-      → after a z ≡ after (taken.Refused Cut) (record_of limit (refused Cut p)) → after a z ≡ end_at limit b
+      → after a z ≡ after (Err (untaken.Refused Cut)) (record_of limit (refused Cut p)) → after a z ≡ end_at limit b
   unfolding end_at cut_short
   end_cut n p t a z q h u v g = g ∙ rw (← e, q, ne_eqb n 0 h, ← u, v)
 
-  pub end_odd : (n p : ℕ) (t : Bool) → x ≡ loaded.Part n p → (n ≡ 0 → ⊥) → t ≡ unfinished limit (held_in n b) → t ≡ false
-      → after taken.Shape b ≡ end_at limit b
-  unfolding end_at cut_short
-  end_odd n p t q h u v = rw (← e, q, ne_eqb n 0 h, ← u, v)
-
-  pub end_whole : (n p : ℕ) → x ≡ loaded.Whole n p → after (taken.Part 0) b ≡ end_at limit b
-  unfolding end_at
-  end_whole n p q = rw (← e, q)
-
-  pub end_refused : (r : EnvelopeRefusal) → x ≡ loaded.Refused r → after (taken.Refused r) b ≡ end_at limit b
+  pub end_refused : (r : EnvelopeRefusal) → x ≡ Err (untaken.Refused r) → after (Err (untaken.Refused r)) b ≡ end_at limit b
   unfolding end_at
   end_refused r q = rw (← e, q)
-
-  pub end_shape : x ≡ loaded.NoRecord → after taken.Shape b ≡ end_at limit b
-  unfolding end_at
-  end_shape q = rw (← e, q)

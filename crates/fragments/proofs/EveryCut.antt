@@ -14,11 +14,10 @@ use Rattle.envelope.specs.Strings.{Ending, ended, stopped, Walk, walk, string_of
 use Rattle.envelope.specs.declared.EnvelopeRefusal.{EnvelopeRefusal}
 use Rattle.envelope.specs.declared.EnvelopeRefusal.TheVariants.{Cut, Groups, Kind, Size}
 use Rattle.envelope.specs.declared.Envelope.{Envelope}
-use Rattle.envelope.specs.declared.EnvelopeRead.{EnvelopeRead}
-use Rattle.envelope.specs.declared.EnvelopeRead.TheVariants.{Is, Refused}
 use Rattle.envelope.proofs.Numbers.{AllBytes}
 use Rattle.envelope.proofs.Strings.{every_string}
 use Rattle.fragments.specs.declared.Taken.TheVariants as taken
+use Rattle.fragments.specs.declared.Untaken.TheVariants as untaken
 use Rattle.fragments.specs.Mail.{Mail, part, whole, refused, fresh, head, in_record, Step, onward, joined, top, later}
 use Rattle.fragments.specs.Record.{head_of, state_of, place_of, held_of, padded, zeros, record_of, loaded_by, load_at, After, after, keep, kept, resumed, begun, take_at, cut_short, end_at}
 use Rattle.fragments.specs.Cuts.{Fed, fed, go_on, hand_over, hand_all, joined_up, stopped_at, leaves, whole_mail, whole_read, whole_end}
@@ -27,6 +26,7 @@ use Rattle.fragments.proofs.Unfinished.{Sized, lacks, next_within, next_largest,
 use Rattle.fragments.proofs.Storing.{length_head, held_record, load_record, laid_record}
 use Rattle.fragments.proofs.Calls.{sized}
 use Rattle.fragments.proofs.Whole.{Told, told, onto, rest_of, read_as, read_on, read_on_is, read_fuel, read_all, follow, follow_all, Good, good_follow, good_read, read_all_is, whole_read_is}
+use Rattle.std.specs.Prelude.{Err, Ok, Result}
 
 abbrev pub fed_of : ℕ → Told → Fed
 fed_of limit t = fed t.envelopes (record_of limit t.mail)
@@ -58,21 +58,21 @@ module _ (limit : ℕ) (z : Sized limit) where
   unfolding joined
   joined_fits p h f b = by (envelope_at limit (h ++ f) 0) refl
     where
-      cut : (r : EnvelopeRefusal) → envelope_at limit (h ++ f) 0 ≡ Refused r
-          → length (held_of (onward p h f (Refused r)).mail) ≤ largest limit
+      cut : (r : EnvelopeRefusal) → envelope_at limit (h ++ f) 0 ≡ Err r
+          → length (held_of (onward p h f (Err r)).mail) ≤ largest limit
       cut Cut e = omega (arith, (lacks limit z (h ++ f) b e).room)
       cut Groups e = omega arith
       cut Kind e = omega arith
       cut Size e = omega arith
 
-      by : (x : EnvelopeRead) → envelope_at limit (h ++ f) 0 ≡ x → length (held_of (onward p h f x).mail) ≤ largest limit
-      by (Is c) e = omega (
+      by : (x : Result Envelope EnvelopeRefusal) → envelope_at limit (h ++ f) 0 ≡ x → length (held_of (onward p h f x).mail) ≤ largest limit
+      by (Ok c) e = omega (
         arith,
         length-take-le c.next (h ++ f) (next_within limit z (h ++ f) b c e),
         next_largest
             limit z (h ++ f) b c e,
       )
-      by (Refused r) e = cut r e
+      by (Err r) e = cut r e
 
   -- the answer to a fragment, and the record after it
   abbrev pub stepped : Step → After
@@ -102,12 +102,12 @@ module _ (limit : ℕ) (z : Sized limit) where
       )
 
   pub take_nothing : (p : ℕ) (h : List ℕ) → Good limit (whole p h)
-      → take_at limit (record_of limit (whole p h)) [] ≡ after (taken.Part 0) (record_of limit (whole p h))
+      → take_at limit (record_of limit (whole p h)) [] ≡ after (Ok (taken.Part 0)) (record_of limit (whole p h))
   unfolding take_at loaded_by begun
   take_nothing p h g = rw (loads (whole p h) g)
 
   pub take_refused : (r : EnvelopeRefusal) (p : ℕ) (f : List ℕ) → Good limit (refused r p)
-      → take_at limit (record_of limit (refused r p)) f ≡ after (taken.Refused r) (record_of limit (refused r p))
+      → take_at limit (record_of limit (refused r p)) f ≡ after (Err (untaken.Refused r)) (record_of limit (refused r p))
   unfolding take_at loaded_by
   take_refused Cut p f g = rw (loads (refused Cut p) g)
   take_refused Groups p f g = rw (loads (refused Groups p) g)
@@ -116,7 +116,7 @@ module _ (limit : ℕ) (z : Sized limit) where
 
   -- ---- a finished envelope says in the record what it says in the string
 
-  content_held : (p : ℕ) (w : List ℕ) → AllBytes w → (e : Envelope) → envelope_at limit w 0 ≡ Is e
+  content_held : (p : ℕ) (w : List ℕ) → AllBytes w → (e : Envelope) → envelope_at limit w 0 ≡ Ok e
       → content_of (record_of limit (whole p (take e.next w))) (in_record e) ≡ content_of w e
   unfolding record_of padded
   content_held p w b e q =
@@ -170,17 +170,17 @@ module _ (limit : ℕ) (z : Sized limit) where
       (read_fuel limit z (suc (length (x ∷ xs))) j (later p (length h)) (x ∷ xs) b (omega arith) o (omega arith) l)
 
   -- a fragment behind what is unfinished, if the rest of it goes on as it should
-  module _ (k p : ℕ) (b h f : List ℕ) (c : envelope_at limit h 0 ≡ Refused Cut) (bytes : AllBytes (h ++ f)) (size : length f ≤ k) (e : take_at limit b f ≡ stepped (joined limit p h f))
+  module _ (k p : ℕ) (b h f : List ℕ) (c : envelope_at limit h 0 ≡ Err Cut) (bytes : AllBytes (h ++ f)) (size : length f ≤ k) (e : take_at limit b f ≡ stepped (joined limit p h f))
       (ih : (m : Mail) (v : List ℕ) → Good limit m → AllBytes v → length v < k → hand_over limit k (record_of limit m) v ≡
       fed_of limit (follow limit m v))
       (good : p ≤ top) where
-    joined_by : (x : EnvelopeRead) → envelope_at limit (h ++ f) 0 ≡ x
+    joined_by : (x : Result Envelope EnvelopeRefusal) → envelope_at limit (h ++ f) 0 ≡ x
         → go_on (onward p h f x).answer (record_of limit (onward p h f x).mail) (λ (n : ℕ). hand_over limit k (record_of limit (onward p h f x).mail) (drop n f)) ≡ fed_of limit (read_as (λ (q : ℕ) (v : List ℕ). read_on limit (length (h ++ f)) q v) p (h ++ f) x)
-    joined_by (Refused Cut) q = refl
-    joined_by (Refused Groups) q = refl
-    joined_by (Refused Kind) q = refl
-    joined_by (Refused Size) q = refl
-    joined_by (Is d) q =
+    joined_by (Err Cut) q = refl
+    joined_by (Err Groups) q = refl
+    joined_by (Err Kind) q = refl
+    joined_by (Err Size) q = refl
+    joined_by (Ok d) q =
         let n = next_within limit z (h ++ f) bytes d q in
         let o = takes_some limit z h f bytes d c q in
         let a = length-append h f in
@@ -272,14 +272,14 @@ module _ (limit : ℕ) (z : Sized limit) where
   leaves_stopped s [] m at r n = refl
   leaves_stopped s (e ∷ es) m at r n = leaves_stopped s es (whole (min at top) (take (e.next - at) (drop at s))) e.next r n
 
-  end_quiet : (m : Mail) → Quiet m → Good limit m → end_at limit (record_of limit m) ≡ after (taken.Part 0) (record_of limit m)
+  end_quiet : (m : Mail) → Quiet m → Good limit m → end_at limit (record_of limit m) ≡ after (Ok (taken.Part 0)) (record_of limit m)
   unfolding end_at loaded_by cut_short
   end_quiet (part p h) none g = rw (loads (part p []) g)
   end_quiet (whole p h) done g = rw (loads (whole p h) g)
   end_quiet (refused r p) q g = elim q [ ]
 
   end_cut : (p x : ℕ) (xs : List ℕ) → Good limit (part p (x ∷ xs))
-      → end_at limit (record_of limit (part p (x ∷ xs))) ≡ after (taken.Refused Cut) (record_of limit (refused Cut p))
+      → end_at limit (record_of limit (part p (x ∷ xs))) ≡ after (Err (untaken.Refused Cut)) (record_of limit (refused Cut p))
   unfolding end_at loaded_by cut_short
   end_cut p x xs g =
       rw (
@@ -291,7 +291,7 @@ module _ (limit : ℕ) (z : Sized limit) where
       )
 
   end_refused : (r : EnvelopeRefusal) (p : ℕ) → Good limit (refused r p)
-      → end_at limit (record_of limit (refused r p)) ≡ after (taken.Refused r) (record_of limit (refused r p))
+      → end_at limit (record_of limit (refused r p)) ≡ after (Err (untaken.Refused r)) (record_of limit (refused r p))
   unfolding end_at loaded_by
   end_refused Cut p g = rw (loads (refused Cut p) g)
   end_refused Groups p g = rw (loads (refused Groups p) g)
@@ -305,11 +305,11 @@ module _ (limit : ℕ) (z : Sized limit) where
   stopped_within s at w (says-part cs t q f d h p) r n e = let o : n ≡ at + length (string_of cs) = cc in omega arith
 
   end_stopped : (s : List ℕ) (r : EnvelopeRefusal) (n : ℕ) → n < length s → Good limit (stopped_at s r n)
-      → end_at limit (record_of limit (stopped_at s r n)) ≡ after (taken.Refused r) (record_of limit (refused r (min n top)))
+      → end_at limit (record_of limit (stopped_at s r n)) ≡ after (Err (untaken.Refused r)) (record_of limit (refused r (min n top)))
   end_stopped s Cut n h g = by (drop n s) (length-drop n s) g
     where
       by : (v : List ℕ) → length v ≡ length s - n → Good limit (part (min n top) v)
-          → end_at limit (record_of limit (part (min n top) v)) ≡ after (taken.Refused Cut) (record_of limit (refused Cut (min n top)))
+          → end_at limit (record_of limit (part (min n top) v)) ≡ after (Err (untaken.Refused Cut)) (record_of limit (refused Cut (min n top)))
       by [] l k = absurd (omega arith)
       by (x ∷ xs) l k = end_cut (min n top) x xs k
   end_stopped s Groups n h g = end_refused Groups (min n top) g

@@ -13,10 +13,9 @@ use Rattle.envelope.specs.declared.EnvelopeRefusal.{EnvelopeRefusal}
 use Rattle.envelope.specs.declared.Envelope.{Envelope}
 use Rattle.envelope.proofs.Numbers.{AllBytes}
 use Rattle.envelope.proofs.Puts.{sets_append}
-use Rattle.fragments.specs.declared.Taken.{Taken}
 use Rattle.fragments.specs.declared.Taken.TheVariants as taken
-use Rattle.fragments.specs.declared.Reported.TheVariants.{Bytes, Small}
-use Rattle.fragments.specs.Mail.{later}
+use Rattle.fragments.specs.declared.Untaken.TheVariants as untaken
+use Rattle.fragments.specs.Mail.{Taking, later}
 use Rattle.fragments.specs.Record.{After, after, count_in, place_in, take_at, end_at}
 use Rattle.fragments.specs.Cuts.{Fed, fed, go_on, hand_over}
 use Rattle.fragments.specs.Texts.{decimal, title, line_of, lines_of, end_of, refusal_of}
@@ -25,6 +24,7 @@ use Rattle.fragments.proofs.Unfinished.{Sized}
 use Rattle.fragments.proofs.Answers.{answer_small}
 use Rattle.fragments.proofs.Ranges.{bytes_drop}
 use Rattle.fragments.proofs.Digits.{decimal_most, decimal_short}
+use Rattle.std.specs.Prelude.{Err, None, Ok, Some}
 
 -- ---- lengths
 
@@ -58,11 +58,11 @@ pub record Steps (limit : ℕ) (f : List ℕ) (e : Envelope) (n : ℕ) : Type 0 
   pub within : n ≤ length f
   pub line : length (line_of e.kind e.job e.bits) ≤ line_room
 
-pub steps : (limit : ℕ) (b f y : List ℕ) (at : ℕ) (x : Taken) (e : Envelope) (n : ℕ) → Sized limit → limit < 10 ^ 5
-    → AllBytes b → AllBytes f → after x y ≡ take_at limit b (take (length f - at) (drop at f)) → x ≡ taken.Whole e n
+pub steps : (limit : ℕ) (b f y : List ℕ) (at : ℕ) (x : Taking) (e : Envelope) (n : ℕ) → Sized limit → limit < 10 ^ 5
+    → AllBytes b → AllBytes f → after x y ≡ take_at limit b (take (length f - at) (drop at f)) → x ≡ Ok (taken.Whole e n)
     → Steps limit (drop at f) e n
 steps limit b f y at x e n z h a c p q =
-    let w : (take_at limit b (drop at f)).answer ≡ taken.Whole e n = ap (λ (v : After). v.answer) (sym (rw (rest_is f at) at p)) ∙ q in
+    let w : (take_at limit b (drop at f)).answer ≡ (Ok (taken.Whole e n)) = ap (λ (v : After). v.answer) (sym (rw (rest_is f at) at p)) ∙ q in
     let r = answer_small limit z e n b (drop at f) a (bytes_drop at f c) w in
     record {
       some = r.some;
@@ -89,36 +89,36 @@ front_next out z t next p = p.place ∙ omega arith
 -- ---- the ways out of `report_title` and `report_end`, as the code has them
 
 module _ (out : List ℕ) where
-  pub no_title : length out < last_room → page Small out ≡ title_at out
+  pub no_title : length out < last_room → page None out ≡ title_at out
   unfolding title_at
   no_title h = rw (lt-ltb (length out) last_room h)
 
-  pub title_put : (z : List ℕ) (next : ℕ) → last_room ≤ length out → Put out z 0 next title → page (Bytes next) z ≡ title_at out
+  pub title_put : (z : List ℕ) (next : ℕ) → last_room ≤ length out → Put out z 0 next title → page (Some next) z ≡ title_at out
   unfolding title_at
   title_put z next h p = rw (le-ltb (length out) last_room h, front_next out z title next p, front out z title next p (omega arith))
 
 module _ (limit : ℕ) (b out : List ℕ) where
-  pub no_end : length out < last_room → said Small b out ≡ last_at limit b out
+  pub no_end : length out < last_room → said None b out ≡ last_at limit b out
   unfolding last_at
   no_end h = rw (lt-ltb (length out) last_room h)
 
   -- t is the last line that the end's answer and the record after it make
-  pub end_put : (x : Taken) (y z t : List ℕ) (next : ℕ) → last_room ≤ length out → after x y ≡ end_at limit b
-      → end_line_of x y ≡ t → length t ≤ last_room → Put out z 0 next t → said (Bytes next) y z ≡ last_at limit b out
+  pub end_put : (x : Taking) (y z t : List ℕ) (next : ℕ) → last_room ≤ length out → after x y ≡ end_at limit b
+      → end_line_of x y ≡ t → length t ≤ last_room → Put out z 0 next t → said (Some next) y z ≡ last_at limit b out
   unfolding last_at
   end_put x y z t next h e q l p = rw
       (le-ltb (length out) last_room h, ← e, q, front_next out z t next p, front out z t next p (omega arith))
 
-  pub end_bare : (x : Taken) (y : List ℕ) → last_room ≤ length out → after x y ≡ end_at limit b → end_line_of x y ≡ []
-      → said (Bytes 0) y out ≡ last_at limit b out
+  pub end_bare : (x : Taking) (y : List ℕ) → last_room ≤ length out → after x y ≡ end_at limit b → end_line_of x y ≡ []
+      → said (Some 0) y out ≡ last_at limit b out
   unfolding last_at
   end_bare x y h e q = rw (le-ltb (length out) last_room h, ← e, q)
 
-module _ (x : Taken) (y : List ℕ) (p : ℕ) (e : p ≡ place_in y) where
-  pub end_line : (n k r : ℕ) → x ≡ taken.Part n → k ≡ count_in y → r ≡ later p k → end_line_of x y ≡ end_of r
+module _ (x : Taking) (y : List ℕ) (p : ℕ) (e : p ≡ place_in y) where
+  pub end_line : (n k r : ℕ) → x ≡ Ok (taken.Part n) → k ≡ count_in y → r ≡ later p k → end_line_of x y ≡ end_of r
   end_line n k r q f g = rw q (ap end_of (omega (arith, e, f, g)))
 
-  pub refusal_line : (r : EnvelopeRefusal) → x ≡ taken.Refused r → p < 2 ^ 64 → end_line_of x y ≡ refusal_of r p
+  pub refusal_line : (r : EnvelopeRefusal) → x ≡ Err (untaken.Refused r) → p < 2 ^ 64 → end_line_of x y ≡ refusal_of r p
   refusal_line r q h = rw q (ap (refusal_of r) (omega (arith, e)))
 
 -- ---- the loop over a fragment: the buffer z has the lines of the bytes before `at`, up to p; b is the record
@@ -147,7 +147,7 @@ module _ (limit : ℕ) (b₀ f o b z : List ℕ) (p at turns : ℕ) (r : Reporti
   unfolding hand_over
   hand_none h = let e : turns ≡ 0 = omega arith in rw e
 
-  module _ (h : 0 < turns) (x : Taken) (y : List ℕ) (e : after x y ≡ take_at limit b (take (length f - at) (drop at f))) where
+  module _ (h : 0 < turns) (x : Taking) (y : List ℕ) (e : after x y ≡ take_at limit b (take (length f - at) (drop at f))) where
     handed : hand_over limit turns b (drop at f) ≡ go_on x y (λ (n : ℕ). hand_over limit (turns - 1) y (drop n (drop at f)))
     unfolding hand_over
     handed =
@@ -155,7 +155,7 @@ module _ (limit : ℕ) (b₀ f o b z : List ℕ) (p at turns : ℕ) (r : Reporti
         let q : take_at limit b (drop at f) ≡ after x y = sym (rw (rest_is f at) at e) in
         ap (λ (n : ℕ). hand_over limit n b (drop at f)) k ∙ rw q
 
-    pub reporting_more : (w : List ℕ) (next : ℕ) (c : Envelope) (n : ℕ) → x ≡ taken.Whole c n → length y ≡ length b
+    pub reporting_more : (w : List ℕ) (next : ℕ) (c : Envelope) (n : ℕ) → x ≡ Ok (taken.Whole c n) → length y ≡ length b
         → AllBytes y → Steps limit (drop at f) c n → Put z w p next (line_of c.kind c.job c.bits)
         → Reporting limit b₀ f o y w next (at + n) (turns - 1)
     reporting_more w next c n q l a s u =
@@ -192,7 +192,7 @@ module _ (limit : ℕ) (b₀ f o b z : List ℕ) (p at turns : ℕ) (r : Reporti
   lines_none = refl
 
   ends : (y : List ℕ) → line_room * length f ≤ length o → hand_over limit turns b (drop at f) ≡ fed [] y
-      → said (Bytes p) y z ≡ lines_at limit b₀ f o
+      → said (Some p) y z ≡ lines_at limit b₀ f o
   unfolding lines_at
   ends y h e =
       let ls : lines_of (hand_over limit turns b (drop at f)).envelopes ≡ [] = ap (λ (v : Fed). lines_of v.envelopes) e ∙ lines_none in
@@ -206,16 +206,16 @@ module _ (limit : ℕ) (b₀ f o b z : List ℕ) (p at turns : ℕ) (r : Reporti
         front o z (lines_of (fragment_by limit b₀ f).envelopes) p
             got (omega (arith, r.room, r.within)),
       )
-      (ap (λ (n : ℕ). said (Bytes n) y (over (lines_of (fragment_by limit b₀ f).envelopes) o)) same)
+      (ap (λ (n : ℕ). said (Some n) y (over (lines_of (fragment_by limit b₀ f).envelopes) o)) same)
 
-  pub reporting_out : turns ≤ 0 → line_room * length f ≤ length o → said (Bytes p) b z ≡ lines_at limit b₀ f o
+  pub reporting_out : turns ≤ 0 → line_room * length f ≤ length o → said (Some p) b z ≡ lines_at limit b₀ f o
   reporting_out h g = ends b g (hand_none h)
 
-  pub reporting_done : (x : Taken) (y : List ℕ) → 0 < turns → line_room * length f ≤ length o
+  pub reporting_done : (x : Taking) (y : List ℕ) → 0 < turns → line_room * length f ≤ length o
       → after x y ≡ take_at limit b (take (length f - at) (drop at f)) → ((k : ℕ → Fed) → go_on x y k ≡ fed [] y)
-      → said (Bytes p) y z ≡ lines_at limit b₀ f o
+      → said (Some p) y z ≡ lines_at limit b₀ f o
   reporting_done x y h g e q = ends y g (handed h x y e ∙ q (λ (n : ℕ). hand_over limit (turns - 1) y (drop n (drop at f))))
 
-pub no_lines : (limit : ℕ) (b f out : List ℕ) → length out < line_room * length f → said Small b out ≡ lines_at limit b f out
+pub no_lines : (limit : ℕ) (b f out : List ℕ) → length out < line_room * length f → said None b out ≡ lines_at limit b f out
 unfolding lines_at
 no_lines limit b f out h = rw (lt-ltb (length out) (line_room * length f) h)

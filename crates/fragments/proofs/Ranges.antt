@@ -153,9 +153,6 @@ bytes_held n b p = bytes_take n (drop head b) (bytes_drop head b p)
 
 -- ---- the loops
 
-pub put_done : (s₀ s src : List ℕ) (at i : ℕ) → Copying s₀ s src at (length src) i → length src ≤ i → s ≡ sets s₀ at src
-put_done s₀ s src at i r h = (copying_done s₀ s src at (length src) i (omega arith) r h).bytes ∙ rw (take-length src)
-
 -- a zero that stands there already
 pub clear_same : (s : List ℕ) (i : ℕ) → get_or s i 0 ≡ 0 → s ≡ set s i 0
 clear_same [] i h = refl

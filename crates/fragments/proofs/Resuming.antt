@@ -11,33 +11,32 @@ use Rattle.envelope.specs.Envelopes.{envelope_at, largest}
 use Rattle.envelope.specs.declared.EnvelopeRefusal.{EnvelopeRefusal}
 use Rattle.envelope.specs.declared.EnvelopeRefusal.TheVariants.{Cut, Groups, Kind, Size}
 use Rattle.envelope.specs.declared.Envelope.{Envelope}
-use Rattle.envelope.specs.declared.EnvelopeRead.{EnvelopeRead}
-use Rattle.envelope.specs.declared.EnvelopeRead.TheVariants.{Is, Refused}
 use Rattle.envelope.proofs.Numbers.{AllBytes}
 use Rattle.envelope.proofs.Puts.{sets_append}
 use Rattle.envelope.proofs.Longer.{envelope_stays}
-use Rattle.fragments.specs.declared.Taken.{Taken}
 use Rattle.fragments.specs.declared.Taken.TheVariants as taken
-use Rattle.fragments.specs.Mail.{refused, is_cut, unfinished, head, in_record, joined}
+use Rattle.fragments.specs.declared.Untaken.TheVariants as untaken
+use Rattle.fragments.specs.Mail.{Taking, refused, is_cut, unfinished, head, in_record, joined}
 use Rattle.fragments.specs.Missing.{missing}
 use Rattle.fragments.specs.Record.{record_bytes, head_at, held_in, record_of, after, laid, kept, resumed}
 use Rattle.fragments.proofs.Ranges.{padded_none, sets_behind, drop_sets, bytes_append, bytes_take, bytes_held}
 use Rattle.fragments.proofs.Unfinished.{Sized, lacks, still_cut, takes_all, body_next, cut_of}
+use Rattle.std.specs.Prelude.{Err, Ok, Result}
 
-is_live : (e : Envelope) → Is e ≡ Refused Cut → ⊥
+is_live : (e : Envelope) → ◌≡◌ {A = Result Envelope EnvelopeRefusal} (Ok e) (Err Cut) → ⊥
 is_live e q = let o : ◌≡◌ {A = ℕ} 0 1 = cc in omega arith
 
 pub not_cut : (r : EnvelopeRefusal) (t : Bool) → t ≡ is_cut r → t ≡ false → r ≡ Cut → ⊥
 not_cut r t e h p = let o : t ≡ true = e ∙ rw p in let q : t ≡ false = h in let z : ◌≡◌ {A = ℕ} 0 1 = cc in omega arith
 
-refused_live : (r : EnvelopeRefusal) → (r ≡ Cut → ⊥) → Refused r ≡ Refused Cut → ⊥
-refused_live r h q = h (cc)
+pub cut_not : (r : EnvelopeRefusal) → (r ≡ Cut → ⊥) → is_cut r ≡ false
+cut_not Cut h = absurd (h refl)
+cut_not Groups h = refl
+cut_not Kind h = refl
+cut_not Size h = refl
 
-pub cut_is : (r : EnvelopeRefusal) → is_cut r ≡ true → r ≡ Cut
-cut_is Cut e = refl
-cut_is Groups e = let z : ◌≡◌ {A = ℕ} 0 1 = cc in absurd (omega arith)
-cut_is Kind e = let z : ◌≡◌ {A = ℕ} 0 1 = cc in absurd (omega arith)
-cut_is Size e = let z : ◌≡◌ {A = ℕ} 0 1 = cc in absurd (omega arith)
+refused_live : (r : EnvelopeRefusal) → (r ≡ Cut → ⊥) → ◌≡◌ {A = Result Envelope EnvelopeRefusal} (Err r) (Err Cut) → ⊥
+refused_live r h q = h (cc)
 
 -- i bytes of f are put behind the n that were held
 pub record Resuming (limit : ℕ) (b₀ b f : List ℕ) (n m i lack : ℕ) : Type 0 where
@@ -45,7 +44,7 @@ pub record Resuming (limit : ℕ) (b₀ b f : List ℕ) (n m i lack : ℕ) : Typ
   pub within : i ≤ length f
   pub same : length b ≡ length b₀
   pub bytes : b ≡ sets b₀ (head + n) (take i f)
-  pub live : envelope_at limit (held_in n b₀ ++ take i f) 0 ≡ Refused Cut
+  pub live : envelope_at limit (held_in n b₀ ++ take i f) 0 ≡ Err Cut
   pub lacking : lack ≡ missing (held_in n b₀ ++ take i f)
 
 -- it lacks a byte at least, and there is room for those that it lacks
@@ -142,12 +141,12 @@ module _ (limit : ℕ) (b₀ f : List ℕ) (n : ℕ) (room : head + n ≤ length
           let e : m + lack ≡ n + (i + lack) = omega (arith, r.count) in
           rw e (held_then (i + lack) y (omega (arith, r.within)) (omega (arith, o.long, r.same, r.count)) on)
 
-      pub still_open : (x : EnvelopeRead) (q : EnvelopeRefusal) (t : Bool)
-          → x ≡ envelope_at limit (held_in (m + lack) y) 0 → x ≡ Refused q → t ≡ is_cut q → t ≡ true
-          → envelope_at limit (held_in (m + lack) y) 0 ≡ Refused Cut
-      still_open x q t g h k v = sym g ∙ (h ∙ ap Refused (cut_is q (sym k ∙ v)))
+      pub still_open : (x : Result Envelope EnvelopeRefusal) (q : EnvelopeRefusal)
+          → x ≡ envelope_at limit (held_in (m + lack) y) 0 → x ≡ Err q → q ≡ Cut
+          → envelope_at limit (held_in (m + lack) y) 0 ≡ Err Cut
+      still_open x q g h k = sym g ∙ (h ∙ ap Err k)
 
-      pub resuming_more : (k : ℕ) → envelope_at limit (held_in (m + lack) y) 0 ≡ Refused Cut
+      pub resuming_more : (k : ℕ) → envelope_at limit (held_in (m + lack) y) 0 ≡ Err Cut
           → k ≡ missing (held_in (m + lack) y) → Resuming limit b₀ y f n (m + lack) (i + lack) k
       resuming_more k e g =
           record {
@@ -159,37 +158,37 @@ module _ (limit : ℕ) (b₀ f : List ℕ) (n : ℕ) (room : head + n ≤ length
             lacking = rw holds_next at g;
           }
 
-      whole_stays : (x : EnvelopeRead) → (x ≡ Refused Cut → ⊥) → envelope_at limit (held_in (m + lack) y) 0 ≡ x
+      whole_stays : (x : Result Envelope EnvelopeRefusal) → (x ≡ Err Cut → ⊥) → envelope_at limit (held_in (m + lack) y) 0 ≡ x
           → envelope_at limit (held_in n b₀ ++ f) 0 ≡ x
       whole_stays x live e =
           rw (all_of (i + lack)) at (envelope_stays (held_in n b₀ ++ take (i + lack) f) (drop (i + lack) f) x live limit
           0 (rw holds_next at e))
 
       -- an envelope is finished by the last of them
-      pub finished : (e : Envelope) → envelope_at limit (held_in (m + lack) y) 0 ≡ Is e → e.next ≡ m + lack
+      pub finished : (e : Envelope) → envelope_at limit (held_in (m + lack) y) 0 ≡ Ok e → e.next ≡ m + lack
       finished e p =
-          let q : envelope_at limit ((held_in n b₀ ++ take i f) ++ take lack (drop i f)) 0 ≡ Is e = rw (further i lack, ← holds_next) p in
+          let q : envelope_at limit ((held_in n b₀ ++ take i f) ++ take lack (drop i f)) 0 ≡ Ok e = rw (further i lack, ← holds_next) p in
           let d : length (drop i f) ≡ length f - i = length-drop i f in
           let k : length (take lack (drop i f)) ≡ lack = length-take-le lack (drop i f) (omega arith) in
           let a : AllBytes ((held_in n b₀ ++ take i f) ++ take lack (drop i f)) = rw (further i lack) (all_bytes (i + lack)) in
           let t = takes_all limit z (held_in n b₀ ++ take i f) (take lack (drop i f)) a e r.live q (omega (arith, r.lacking)) in
           omega (arith, t, length-append (held_in n b₀ ++ take i f) (take lack (drop i f)), length_so_far i r.within, r.count)
 
-      pub whole_fits : (x : EnvelopeRead) (e : Envelope) → x ≡ envelope_at limit (held_in (m + lack) y) 0 → x ≡ Is e
+      pub whole_fits : (x : Result Envelope EnvelopeRefusal) (e : Envelope) → x ≡ envelope_at limit (held_in (m + lack) y) 0 → x ≡ Ok e
           → (e.body ≤ largest limit) × (e.next ≤ largest limit)
       whole_fits x e q g =
-          let s : envelope_at limit (held_in (m + lack) y) 0 ≡ Is e = sym q ∙ g in
+          let s : envelope_at limit (held_in (m + lack) y) 0 ≡ Ok e = sym q ∙ g in
           let t = finished e s in
           let o = body_next limit z (held_in (m + lack) y) (rw holds_next (all_bytes (i + lack))) e s in
           (omega (arith, has_room.most), omega (arith, has_room.most))
 
-      pub resume_whole : (p : ℕ) (w : List ℕ) (x : EnvelopeRead) (e c : Envelope)
-          → unfinished limit (held_in n b₀) ≡ true → x ≡ envelope_at limit (held_in (m + lack) y) 0 → x ≡ Is e
+      pub resume_whole : (p : ℕ) (w : List ℕ) (x : Result Envelope EnvelopeRefusal) (e c : Envelope)
+          → unfinished limit (held_in n b₀) ≡ true → x ≡ envelope_at limit (held_in (m + lack) y) 0 → x ≡ Ok e
           → w ≡ sets y 0 (head_at 1 (m + lack) p) → c ≡ in_record e
-          → after (taken.Whole c (i + lack)) w ≡ resumed limit b₀ n p f
+          → after (Ok (taken.Whole c (i + lack))) w ≡ resumed limit b₀ n p f
       unfolding resumed joined kept laid
       resume_whole p w x e c u q g h k =
-          let s : envelope_at limit (held_in (m + lack) y) 0 ≡ Is e = sym q ∙ g in
+          let s : envelope_at limit (held_in (m + lack) y) 0 ≡ Ok e = sym q ∙ g in
           let t = finished e s in
           let l = length_held in
           let o : e.next ≡ length (held_in n b₀) + (i + lack) = omega (arith, r.count) in
@@ -200,7 +199,7 @@ module _ (limit : ℕ) (b₀ f : List ℕ) (n : ℕ) (room : head + n ≤ length
           let j : m + lack ≡ n + (i + lack) = omega (arith, r.count) in
           rw (
             u,
-            whole_stays (Is e) (is_live e) s,
+            whole_stays (Ok e) (is_live e) s,
             v,
             d,
             padded_none n (held_in n b₀ ++ take (i + lack) f) (omega arith),
@@ -212,22 +211,22 @@ module _ (limit : ℕ) (b₀ f : List ℕ) (n : ℕ) (room : head + n ≤ length
             ← k,
           )
 
-      pub resume_refused : (p : ℕ) (w : List ℕ) (x : EnvelopeRead) (q : EnvelopeRefusal) (t : Bool) (o : Taken)
-          → unfinished limit (held_in n b₀) ≡ true → x ≡ envelope_at limit (held_in (m + lack) y) 0 → x ≡ Refused q
-          → t ≡ is_cut q → t ≡ false → after o w ≡ after (taken.Refused q) (record_of limit (refused q p))
+      pub resume_refused : (p : ℕ) (w : List ℕ) (x : Result Envelope EnvelopeRefusal) (q : EnvelopeRefusal) (o : Taking)
+          → unfinished limit (held_in n b₀) ≡ true → x ≡ envelope_at limit (held_in (m + lack) y) 0 → x ≡ Err q
+          → (q ≡ Cut → ⊥) → after o w ≡ after (Err (untaken.Refused q)) (record_of limit (refused q p))
           → after o w ≡ resumed limit b₀ n p f
       unfolding resumed joined kept
-      resume_refused p w x q t o u g h k v e =
-          e ∙ rw (u, whole_stays (Refused q) (refused_live q (not_cut q t k v)) (sym g ∙ h), ← k, v)
+      resume_refused p w x q o u g h k e =
+          e ∙ rw (u, whole_stays (Err q) (refused_live q k) (sym g ∙ h), cut_not q k)
 
     -- the rest of the fragment is put, and it is unfinished still
     pub resume_part : (p : ℕ) (y w : List ℕ) → unfinished limit (held_in n b₀) ≡ true → length f - i < lack
         → y ≡ sets b (head + m) (take (length f - i) (drop i f)) → w ≡ sets y 0 (head_at 0 (n + length f) p)
-        → after (taken.Part (length f)) w ≡ resumed limit b₀ n p f
+        → after (Ok (taken.Part (length f))) w ≡ resumed limit b₀ n p f
     unfolding resumed joined kept laid
     resume_part p y w u g h k =
         let d : length (drop i f) ≡ length f - i = length-drop i f in
-        let s : envelope_at limit (held_in n b₀ ++ f) 0 ≡ Refused Cut = rw (all_of i) at
+        let s : envelope_at limit (held_in n b₀ ++ f) 0 ≡ Err Cut = rw (all_of i) at
         (still_cut limit (held_in n b₀ ++ take i f) (drop i f) r.live (omega (arith, r.lacking))) in
         let l = length_held in
         let a : length (held_in n b₀ ++ f) ≡ n + length f = length-append (held_in n b₀) f ∙ omega arith in
@@ -236,6 +235,6 @@ module _ (limit : ℕ) (b₀ f : List ℕ) (n : ℕ) (room : head + n ≤ length
         rw (u, s, padded_none n (held_in n b₀ ++ f) (omega arith), sets_behind b₀ head n f room, ← q, a, ← k)
 
 pub resume_shape : (limit : ℕ) (b f : List ℕ) (n p : ℕ) (t : Bool) → t ≡ unfinished limit (held_in n b) → t ≡ false
-    → after taken.Shape b ≡ resumed limit b n p f
+    → after (Err untaken.Shape) b ≡ resumed limit b n p f
 unfolding resumed
 resume_shape limit b f n p t e h = rw (← e, h)

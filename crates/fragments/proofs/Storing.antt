@@ -12,12 +12,13 @@ use borrow.Author.Tests.{eq-eqb, ne_eqb, le-leb, lt-leb, eqb-true, leb-true}
 use Rattle.envelope.specs.Envelopes.{refusal_number, largest}
 use Rattle.envelope.specs.declared.EnvelopeRefusal.{EnvelopeRefusal}
 use Rattle.envelope.specs.declared.EnvelopeRefusal.TheVariants.{Cut, Groups, Kind, Size}
-use Rattle.fragments.specs.declared.stored.Loaded.{Loaded}
-use Rattle.fragments.specs.declared.stored.Loaded.TheVariants.{NoRecord}
 use Rattle.fragments.specs.declared.Taken.TheVariants as taken
+use Rattle.fragments.specs.declared.Untaken.TheVariants as untaken
 use Rattle.fragments.specs.Mail.{Mail, refused, head, top}
-use Rattle.fragments.specs.Record.{record_bytes, eight_of, of_two, of_eight, head_at, state_of, place_of, held_of, head_of, zeros, padded, record_of, empty_of, count_in, place_in, held_in, loaded_by, load_at, laid, after, fresh_at}
+use Rattle.std.specs.Int.{to_be_bytes, w64}
+use Rattle.fragments.specs.Record.{Loading, record_bytes, eight_of, of_two, of_eight, head_at, state_of, place_of, held_of, head_of, zeros, padded, record_of, empty_of, count_in, place_in, held_in, loaded_by, load_at, laid, after, fresh_at}
 use Rattle.fragments.proofs.Ranges.{drop_zeros, length_zeros, length_padded, padded_more, headed, headed_whole}
+use Rattle.std.specs.Prelude.{Err, Ok}
 
 -- ---- numbers in bytes
 
@@ -159,55 +160,62 @@ empty_put limit b y z state p l g h =
 
 -- ---- the ways out of `load`, as the code has them
 
-pub load_long : (limit : ℕ) (b : List ℕ) → (length b ≡ record_bytes limit → ⊥) → NoRecord ≡ load_at limit b
+pub load_long : (limit : ℕ) (b : List ℕ) → (length b ≡ record_bytes limit → ⊥) → (Err untaken.Shape) ≡ load_at limit b
 unfolding load_at
 load_long limit b h = rw (ne_eqb (length b) (record_bytes limit) h)
 
 module _ (limit : ℕ) (b : List ℕ) (n : ℕ) (l : length b ≡ record_bytes limit) (e : n ≡ count_in b) where
-  pub load_many : largest limit < n → NoRecord ≡ load_at limit b
+  pub load_many : largest limit < n → (Err untaken.Shape) ≡ load_at limit b
   unfolding load_at
   load_many h = rw (eq-eqb (length b) (record_bytes limit) l, ← e, lt-leb n (largest limit) h)
 
-  pub load_is : (x : Loaded) (p : ℕ) → n ≤ largest limit → p ≡ place_in b → x ≡ loaded_by (get_or b 0 0) n p → x ≡ load_at limit b
+  pub load_is : (x : Loading) (p : ℕ) → n ≤ largest limit → p ≡ place_in b → x ≡ loaded_by (get_or b 0 0) n p → x ≡ load_at limit b
   unfolding load_at
   load_is x p h f g = g ∙ rw (eq-eqb (length b) (record_bytes limit) l, ← e, le-leb n (largest limit) h, ← f)
 
 -- what was loaded, if it was a record
-pub record Loads (limit : ℕ) (b : List ℕ) (x : Loaded) : Type 0 where
+pub record Loads (limit : ℕ) (b : List ℕ) (x : Loading) : Type 0 where
   pub size : length b ≡ record_bytes limit
   pub count : count_in b ≤ largest limit
   pub by : loaded_by (get_or b 0 0) (count_in b) (place_in b) ≡ x
 
 module _ (limit : ℕ) (b : List ℕ) where
-  by_tests : (t u : Bool) (x : Loaded) → eqb (length b) (record_bytes limit) ≡ t → leb (count_in b) (largest limit) ≡ u
-      → cond (t && u) (loaded_by (get_or b 0 0) (count_in b) (place_in b)) NoRecord ≡ x → (x ≡ NoRecord → ⊥)
+  by_tests : (t u : Bool) (x : Loading) → eqb (length b) (record_bytes limit) ≡ t → leb (count_in b) (largest limit) ≡ u
+      → cond (t && u) (loaded_by (get_or b 0 0) (count_in b) (place_in b)) (Err untaken.Shape) ≡ x → (x ≡ Err untaken.Shape → ⊥)
       → Loads limit b x
   by_tests true true x p q e h = record { size = eqb-true (length b) (record_bytes limit) p; count = leb-true (count_in b) (largest limit) q; by = e }
   by_tests true false x p q e h = absurd (h (sym e))
   by_tests false u x p q e h = absurd (h (sym e))
 
-  pub loads : (x : Loaded) → load_at limit b ≡ x → (x ≡ NoRecord → ⊥) → Loads limit b x
+  pub loads : (x : Loading) → load_at limit b ≡ x → (x ≡ Err untaken.Shape → ⊥) → Loads limit b x
   unfolding load_at
   loads x e h = by_tests (eqb (length b) (record_bytes limit)) (leb (count_in b) (largest limit)) x refl refl e h
 
+-- ---- eight bytes, as the library makes them
+
+pub eight_is : (n : ℕ) (l : List ℕ) → l ≡ to_be_bytes w64 n → l ≡ eight_of n
+unfolding eight_of
+eight_is n l e =
+    let a : n / 65536 ≡ n / 256 / 256 = omega arith in
+    let b : n / 16777216 ≡ n / 256 / 256 / 256 = omega arith in
+    let c : n / 4294967296 ≡ n / 256 / 256 / 256 / 256 = omega arith in
+    let d : n / 1099511627776 ≡ n / 256 / 256 / 256 / 256 / 256 = omega arith in
+    let f : n / 281474976710656 ≡ n / 256 / 256 / 256 / 256 / 256 / 256 = omega arith in
+    let g : n / 72057594037927936 ≡ n / 256 / 256 / 256 / 256 / 256 / 256 / 256 = omega arith in
+    e ∙ rw (a, b, c, d, f, g)
+
 -- ---- a fresh record, and one of a refusal
 
-pub fresh_odd : (limit : ℕ) (b : List ℕ) → (length b ≡ record_bytes limit → ⊥) → after taken.Shape b ≡ fresh_at limit b
+pub fresh_odd : (limit : ℕ) (b : List ℕ) → (length b ≡ record_bytes limit → ⊥) → after (Err untaken.Shape) b ≡ fresh_at limit b
 unfolding fresh_at
 fresh_odd limit b h = rw (ne_eqb (length b) (record_bytes limit) h)
 
 pub fresh_made : (limit : ℕ) (b z : List ℕ) → length b ≡ record_bytes limit → z ≡ empty_of limit 0 0
-    → after (taken.Part 0) z ≡ fresh_at limit b
+    → after (Ok (taken.Part 0)) z ≡ fresh_at limit b
 unfolding fresh_at record_of
 fresh_made limit b z l e = rw (eq-eqb (length b) (record_bytes limit) l, e)
 
 pub refusal_made : (limit : ℕ) (z : List ℕ) (r : EnvelopeRefusal) (k p : ℕ) → k ≡ refusal_number r
-    → z ≡ empty_of limit k p → after (taken.Refused r) z ≡ after (taken.Refused r) (record_of limit (refused r p))
+    → z ≡ empty_of limit k p → after (Err (untaken.Refused r)) z ≡ after (Err (untaken.Refused r)) (record_of limit (refused r p))
 unfolding record_of
 refusal_made limit z r k p e h = rw (h, e)
-
-pub refusal_small : (r : EnvelopeRefusal) → refusal_number r < 256
-refusal_small Cut = omega arith
-refusal_small Groups = omega arith
-refusal_small Kind = omega arith
-refusal_small Size = omega arith

@@ -14,8 +14,6 @@ use Rattle.envelope.specs.Strings.{ended, stopped, Walk, ends, past, on_read, wa
 use Rattle.envelope.specs.declared.EnvelopeRefusal.{EnvelopeRefusal}
 use Rattle.envelope.specs.declared.EnvelopeRefusal.TheVariants.{Cut, Groups, Kind, Size}
 use Rattle.envelope.specs.declared.Envelope.{Envelope}
-use Rattle.envelope.specs.declared.EnvelopeRead.{EnvelopeRead}
-use Rattle.envelope.specs.declared.EnvelopeRead.TheVariants.{Is, Refused}
 use Rattle.envelope.proofs.Numbers.{AllBytes}
 use Rattle.envelope.proofs.Longer.{envelope_stays, envelope_shifted}
 use Rattle.envelope.proofs.Strings.{walk_end, walk_on}
@@ -23,6 +21,7 @@ use Rattle.fragments.specs.Mail.{Mail, part, whole, refused, fresh, is_cut, top,
 use Rattle.fragments.specs.Cuts.{joined_up, leaves, whole_mail}
 use Rattle.fragments.proofs.Ranges.{bytes_append, bytes_front, bytes_back, bytes_drop}
 use Rattle.fragments.proofs.Unfinished.{Sized, next_within, next_largest, body_next, takes_some, none_open}
+use Rattle.std.specs.Prelude.{Err, Ok, Result}
 
 -- ---- the envelopes that come, and what is held after them
 
@@ -44,9 +43,9 @@ abbrev pub rest_of : (ℕ → List ℕ → Told) → ℕ → List ℕ → List �
 rest_of go p h [] = told [] (whole p h)
 rest_of go p h (x ∷ xs) = go (later p (length h)) (x ∷ xs)
 
-abbrev pub read_as : (ℕ → List ℕ → Told) → ℕ → List ℕ → EnvelopeRead → Told
-read_as go p w (Is e) = add (content_of w e) (rest_of go p (take e.next w) (drop e.next w))
-read_as go p w (Refused r) = told [] (cond (is_cut r) (part p w) (refused r p))
+abbrev pub read_as : (ℕ → List ℕ → Told) → ℕ → List ℕ → Result Envelope EnvelopeRefusal → Told
+read_as go p w (Ok e) = add (content_of w e) (rest_of go p (take e.next w) (drop e.next w))
+read_as go p w (Err r) = told [] (cond (is_cut r) (part p w) (refused r p))
 
 unfoldable pub read_on : ℕ → ℕ → ℕ → List ℕ → Told
 read_on limit zero p w = told [] (part p w)
@@ -57,10 +56,10 @@ pub read_on_is : (limit k p : ℕ) (w : List ℕ)
 unfolding read_on
 read_on_is limit k p w = refl
 
-is_live : (e : Envelope) → Is e ≡ Refused Cut → ⊥
+is_live : (e : Envelope) → ◌≡◌ {A = Result Envelope EnvelopeRefusal} (Ok e) (Err Cut) → ⊥
 is_live e q = let o : ◌≡◌ {A = ℕ} 0 1 = cc in omega arith
 
-refused_live : (r : EnvelopeRefusal) → is_cut r ≡ false → Refused r ≡ Refused Cut → ⊥
+refused_live : (r : EnvelopeRefusal) → is_cut r ≡ false → ◌≡◌ {A = Result Envelope EnvelopeRefusal} (Err r) (Err Cut) → ⊥
 refused_live Cut h q = let o : ◌≡◌ {A = ℕ} 0 1 = cc in omega arith
 refused_live Groups h q = let o : ◌≡◌ {A = ℕ} 0 1 = cc in omega arith
 refused_live Kind h q = let o : ◌≡◌ {A = ℕ} 0 1 = cc in omega arith
@@ -70,11 +69,11 @@ refused_live Size h q = let o : ◌≡◌ {A = ℕ} 0 1 = cc in omega arith
 
 module _ (limit : ℕ) (z : Sized limit) where
   -- it takes a byte at least
-  next_some : (w : List ℕ) → AllBytes w → (e : Envelope) → envelope_at limit w 0 ≡ Is e → 0 < e.next
+  next_some : (w : List ℕ) → AllBytes w → (e : Envelope) → envelope_at limit w 0 ≡ Ok e → 0 < e.next
   next_some w b e p = takes_some limit z [] w b e (none_open limit) p
 
   -- what it says does not depend on what follows it
-  content_stays : (w t : List ℕ) → AllBytes w → (e : Envelope) → envelope_at limit w 0 ≡ Is e → content_of (w ++ t) e ≡ content_of w e
+  content_stays : (w t : List ℕ) → AllBytes w → (e : Envelope) → envelope_at limit w 0 ≡ Ok e → content_of (w ++ t) e ≡ content_of w e
   content_stays w t b e p =
       let n = next_within limit z w b e p in
       let o = body_next limit z w b e p in
@@ -100,11 +99,11 @@ module _ (limit : ℕ) (z : Sized limit) where
       (s : length v < length w). read_fuel k j q v c (omega arith) (omega arith) (omega arith)
       (omega arith)) ∙ sym (read_on_is limit j p w))
     where
-      by : (x : EnvelopeRead) → envelope_at limit w 0 ≡ x
+      by : (x : Result Envelope EnvelopeRefusal) → envelope_at limit w 0 ≡ x
           → ((q : ℕ) (v : List ℕ) → AllBytes v → 0 < length v → length v < length w → read_on limit k q v ≡ read_on limit j q v)
           → read_as (λ (q : ℕ) (v : List ℕ). read_on limit k q v) p w x ≡ read_as (λ (q : ℕ) (v : List ℕ). read_on limit j q v) p w x
-      by (Refused r) e f = refl
-      by (Is c) e f =
+      by (Err r) e f = refl
+      by (Ok c) e f =
           let n = next_within limit z w b c e in
           let o = next_some w b c e in
           let l = length-drop c.next w in
@@ -121,7 +120,7 @@ follow limit (refused r p) f = told [] (refused r p)
 
 -- what a reader may hold
 abbrev pub Good : ℕ → Mail → Type 0
-Good limit (part p h) = (envelope_at limit h 0 ≡ Refused Cut) × (AllBytes h) × (p ≤ top)
+Good limit (part p h) = (envelope_at limit h 0 ≡ Err Cut) × (AllBytes h) × (p ≤ top)
 Good limit (whole p h) = (length h ≤ largest limit) × (p ≤ top)
 Good limit (refused r p) = p ≤ top
 
@@ -136,7 +135,7 @@ module _ (limit : ℕ) (z : Sized limit) where
       rw (read_on_is limit k p w) (by (envelope_at limit w 0) refl (λ (q : ℕ) (v : List ℕ) (a : AllBytes v)
       (s : length v < length w) (o : q ≤ top). good_read k q v a (omega arith) o))
     where
-      stop : (r : EnvelopeRefusal) → envelope_at limit w 0 ≡ Refused r → Good limit (cond (is_cut r) (part p w) (refused r p))
+      stop : (r : EnvelopeRefusal) → envelope_at limit w 0 ≡ Err r → Good limit (cond (is_cut r) (part p w) (refused r p))
       stop Cut e = (e, b, g)
       stop Groups e = g
       stop Kind e = g
@@ -148,11 +147,11 @@ module _ (limit : ℕ) (z : Sized limit) where
       rest h [] l a s f = (l, g)
       rest h (x ∷ xs) l a s f = f (later p (length h)) (x ∷ xs) a s (omega arith)
 
-      by : (x : EnvelopeRead) → envelope_at limit w 0 ≡ x
+      by : (x : Result Envelope EnvelopeRefusal) → envelope_at limit w 0 ≡ x
           → ((q : ℕ) (v : List ℕ) → AllBytes v → length v < length w → q ≤ top → Good limit (read_on limit k q v).mail)
           → Good limit (read_as (λ (q : ℕ) (v : List ℕ). read_on limit k q v) p w x).mail
-      by (Refused r) e f = stop r e
-      by (Is c) e f =
+      by (Err r) e f = stop r e
+      by (Ok c) e f =
           let n = next_within limit z w b c e in
           let o = next_some limit z w b c e in
           let l = length-drop c.next w in
@@ -186,16 +185,16 @@ module _ (limit : ℕ) (z : Sized limit) where
       more : (v : List ℕ) → length v < length w → length (v ++ f) < j
       more v s = omega (arith, length-append v f, length-append w f)
 
-      cut : envelope_at limit w 0 ≡ Refused Cut
+      cut : envelope_at limit w 0 ≡ Err Cut
           → read_as (λ (q : ℕ) (v : List ℕ). read_on limit j q v) p (w ++ f) (envelope_at limit (w ++ f) 0) ≡ read_all limit p (w ++ f)
       cut e = sym (read_on_is limit j p (w ++ f)) ∙ read_fuel limit z (suc j) (suc (length (w ++ f))) p (w ++ f)
           (bytes_append w f a b) (omega arith) (omega arith) (omega arith) (omega arith)
 
-      stop : (r : EnvelopeRefusal) → is_cut r ≡ false → envelope_at limit w 0 ≡ Refused r
+      stop : (r : EnvelopeRefusal) → is_cut r ≡ false → envelope_at limit w 0 ≡ Err r
           → read_as (λ (q : ℕ) (v : List ℕ). read_on limit j q v) p (w ++ f) (envelope_at limit (w ++ f) 0) ≡ told [] (refused r p)
-      stop r n e = rw (envelope_stays w f (Refused r) (refused_live r n) limit 0 e, n)
+      stop r n e = rw (envelope_stays w f (Err r) (refused_live r n) limit 0 e, n)
 
-      stops : (r : EnvelopeRefusal) → envelope_at limit w 0 ≡ Refused r
+      stops : (r : EnvelopeRefusal) → envelope_at limit w 0 ≡ Err r
           → read_as (λ (q : ℕ) (v : List ℕ). read_on limit j q v) p (w ++ f) (envelope_at limit (w ++ f) 0) ≡ follow limit (cond (is_cut r) (part p w) (refused r p)) f
       stops Cut e = cut e
       stops Groups e = stop Groups refl e
@@ -208,16 +207,16 @@ module _ (limit : ℕ) (z : Sized limit) where
       rest h [] c s ih = rest_follow j p h f (omega (arith, length-append w f)) b
       rest h (x ∷ xs) c s ih = ih (later p (length h)) (x ∷ xs) c s
 
-      by : (x : EnvelopeRead) → envelope_at limit w 0 ≡ x
+      by : (x : Result Envelope EnvelopeRefusal) → envelope_at limit w 0 ≡ x
           → ((q : ℕ) (v : List ℕ) → AllBytes v → length v < length w → read_on limit j q (v ++ f) ≡ onto (read_on limit k q v).envelopes (follow limit (read_on limit k q v).mail f))
           → read_as (λ (q : ℕ) (v : List ℕ). read_on limit j q v) p (w ++ f) (envelope_at limit (w ++ f) 0) ≡ onto (read_as (λ (q : ℕ) (v : List ℕ). read_on limit k q v) p w x).envelopes (follow limit (read_as (λ (q : ℕ) (v : List ℕ). read_on limit k q v) p w x).mail f)
-      by (Refused r) e ih = stops r e
-      by (Is c) e ih =
+      by (Err r) e ih = stops r e
+      by (Ok c) e ih =
           let n = next_within limit z w a c e in
           let o = next_some limit z w a c e in
           let l = length-drop c.next w in
           rw (
-            envelope_stays w f (Is c) (is_live c) limit 0 e,
+            envelope_stays w f (Ok c) (is_live c) limit 0 e,
             content_stays limit z w f a c e,
             take-append-le c.next
                 w f n,
@@ -282,11 +281,11 @@ module _ (limit : ℕ) (z : Sized limit) (s : List ℕ) (b : AllBytes s) where
           let i = ih (at + e.next) (whole (min at top) (take (at + e.next - at) (drop at s))) (omega arith) (omega arith) in
           rw (t, q, ← p) i
 
-      by : (x : EnvelopeRead) → envelope_at limit (drop at s) 0 ≡ x
+      by : (x : Result Envelope EnvelopeRefusal) → envelope_at limit (drop at s) 0 ≡ x
           → ((n : ℕ) (y : Mail) → n < length s → at < n → read_on limit k (min n top) (drop n s) ≡ leaves_of y n (walked k n))
           → read_as (λ (q : ℕ) (v : List ℕ). read_on limit k q v) (min at top) (drop at s) x ≡ leaves_of m at (on_read (moved at x) at (λ (e : Envelope). walk_from_of limit s k e.next))
-      by (Refused r) e ih = sym (stop_leaves m at r)
-      by (Is c) e ih =
+      by (Err r) e ih = sym (stop_leaves m at r)
+      by (Ok c) e ih =
           let d = length-drop at s in
           let n = next_within limit z (drop at s) (bytes_drop at s b) c e in
           let o = next_some limit z (drop at s) (bytes_drop at s b) c e in

@@ -1,14 +1,14 @@
 -- What the theorem speaks of ("For every way of cutting a byte string, with fragments of no bytes among them, the envelopes, the
 -- refusal and the record after it equal those of reading the string whole"): the host hands over fragment after fragment, each
 -- until its bytes are taken; and what reading the string whole, by the walk of crate envelope, leaves.
-use Rattle.std.specs.Prelude.{ℕ, zero, suc, ◌-◌, min, cond, List, [], ◌∷◌, ◌++◌, length, take, drop}
+use Rattle.std.specs.Prelude.{ℕ, zero, suc, ◌-◌, min, cond, List, [], ◌∷◌, ◌++◌, length, take, drop, Err, Ok}
 use Rattle.envelope.specs.Envelopes.{Content, content_of}
 use Rattle.envelope.specs.Strings.{Ending, ended, stopped, walk, contents_of}
 use Rattle.envelope.specs.declared.EnvelopeRefusal.{EnvelopeRefusal}
 use Rattle.envelope.specs.declared.Envelope.{Envelope}
-use Rattle.fragments.specs.declared.Taken.{Taken}
-use Rattle.fragments.specs.declared.Taken.TheVariants.{Whole, Part, Refused, Shape}
-use Rattle.fragments.specs.Mail.{Mail, part, whole, refused, fresh, is_cut, top}
+use Rattle.fragments.specs.declared.Taken.TheVariants.{Whole, Part}
+use Rattle.fragments.specs.declared.Untaken.TheVariants.{Refused}
+use Rattle.fragments.specs.Mail.{Taking, Mail, part, whole, refused, fresh, is_cut, top}
 use Rattle.fragments.specs.Record.{After, after, record_of, take_at}
 
 -- ---- by calls
@@ -25,11 +25,10 @@ abbrev pub and_then : List Content → Fed → Fed
 and_then cs x = fed (cs ++ x.envelopes) x.bytes
 
 -- a finished envelope is taken from the record, and the rest of the fragment is handed over again
-abbrev pub go_on : Taken → List ℕ → (ℕ → Fed) → Fed
-go_on (Whole e n) b k = and_then (content_of b e ∷ []) (k n)
-go_on (Part n) b k = fed [] b
-go_on (Refused r) b k = fed [] b
-go_on Shape b k = fed [] b
+abbrev pub go_on : Taking → List ℕ → (ℕ → Fed) → Fed
+go_on (Ok (Whole e n)) b k = and_then (content_of b e ∷ []) (k n)
+go_on (Ok (Part n)) b k = fed [] b
+go_on (Err x) b k = fed [] b
 
 -- one fragment, of which each call but the last takes a byte at least
 unfoldable pub hand_over : ℕ → ℕ → List ℕ → List ℕ → Fed
@@ -68,5 +67,5 @@ whole_read limit s = fed (contents_of s (walk limit s).envelopes) (record_of lim
 
 -- what the end answers then: nothing, or the refusal of the whole string; in the record, the byte where the refused envelope begins
 abbrev pub whole_end : ℕ → List ℕ → Ending → After
-whole_end limit s (ended n) = after (Part 0) (record_of limit (whole_mail limit s))
-whole_end limit s (stopped r n) = after (Refused r) (record_of limit (refused r (min n top)))
+whole_end limit s (ended n) = after (Ok (Part 0)) (record_of limit (whole_mail limit s))
+whole_end limit s (stopped r n) = after (Err (Refused r)) (record_of limit (refused r (min n top)))

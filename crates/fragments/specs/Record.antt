@@ -4,15 +4,16 @@
 --    3 to 10  the byte where that envelope begins, most significant byte first
 --   11 on     the bytes that it holds, then zeros to the size of the largest envelope
 -- So what a reader holds determines each byte.
-use Rattle.std.specs.Prelude.{ℕ, ◌+◌, ◌-◌, ◌*◌, ◌/◌, ◌%◌, cond, ◌&&◌, List, [], ◌∷◌, ◌++◌, length, take, drop, get_or, replicate, leb, eqb}
+use Rattle.std.specs.Prelude.{ℕ, ◌+◌, ◌-◌, ◌*◌, ◌/◌, ◌%◌, cond, ◌&&◌, List, [], ◌∷◌, ◌++◌, length, take, drop, get_or, replicate, leb, eqb, Err, Ok, Result}
 use Rattle.std.proofs.lemmas.List.Edits.{sets}
 use Rattle.envelope.specs.Envelopes.{refusal_number, largest}
 use Rattle.envelope.specs.declared.EnvelopeRefusal.TheVariants.{Cut, Groups, Kind, Size}
-use Rattle.fragments.specs.declared.Taken.{Taken}
+use Rattle.fragments.specs.declared.Untaken.{Untaken}
 use Rattle.fragments.specs.declared.Taken.TheVariants as taken
 use Rattle.fragments.specs.declared.stored.Loaded.{Loaded}
-use Rattle.fragments.specs.declared.stored.Loaded.TheVariants.{Part, Whole, Refused, NoRecord}
-use Rattle.fragments.specs.Mail.{Mail, part, whole, refused, fresh, unfinished, head, Step, joined, later}
+use Rattle.fragments.specs.declared.stored.Loaded.TheVariants.{Part, Whole}
+use Rattle.fragments.specs.declared.Untaken.TheVariants.{Refused, Shape}
+use Rattle.fragments.specs.Mail.{Taking, Mail, part, whole, refused, fresh, unfinished, head, Step, joined, later}
 
 -- the bytes of a record: its head, and room for the largest envelope
 abbrev pub record_bytes : ℕ → ℕ
@@ -88,23 +89,26 @@ place_in b = of_eight (get_or b 3 0) (get_or b 4 0) (get_or b 5 0) (get_or b 6 0
 abbrev pub held_in : ℕ → List ℕ → List ℕ
 held_in n b = take n (drop head b)
 
-unfoldable pub loaded_by : ℕ → ℕ → ℕ → Loaded
-loaded_by state n p =
-    cond (eqb state 0) (Part n p)
-    (cond (eqb state 1) (Whole n p)
-    (cond (eqb state 20) (Refused Cut) (cond (eqb state 21) (Refused Groups) (cond (eqb state 22) (Refused Kind) (cond (eqb state 23) (Refused Size) NoRecord)))))
+abbrev pub Loading : Type 0
+Loading = Result Loaded Untaken
 
-unfoldable pub load_at : ℕ → List ℕ → Loaded
+unfoldable pub loaded_by : ℕ → ℕ → ℕ → Loading
+loaded_by state n p =
+    cond (eqb state 0) (Ok (Part n p))
+    (cond (eqb state 1) (Ok (Whole n p))
+    (cond (eqb state 20) (Err (Refused Cut)) (cond (eqb state 21) (Err (Refused Groups)) (cond (eqb state 22) (Err (Refused Kind)) (cond (eqb state 23) (Err (Refused Size)) (Err Shape))))))
+
+unfoldable pub load_at : ℕ → List ℕ → Loading
 load_at limit b =
-    cond (eqb (length b) (record_bytes limit) && leb (count_in b) (largest limit)) (loaded_by (get_or b 0 0) (count_in b) (place_in b)) NoRecord
+    cond (eqb (length b) (record_bytes limit) && leb (count_in b) (largest limit)) (loaded_by (get_or b 0 0) (count_in b) (place_in b)) (Err Shape)
 
 -- ---- the three calls: the answer, and the range after it
 
 pub record After : Type 0 where
-  pub answer : Taken
+  pub answer : Taking
   pub bytes : List ℕ
 
-abbrev pub after : Taken → List ℕ → After
+abbrev pub after : Taking → List ℕ → After
 after a b = record { answer = a; bytes = b }
 
 -- the head and the bytes that are held, over a range of which n bytes were held; what was held past them is zero now.
@@ -122,23 +126,22 @@ kept limit n b s = after s.answer (keep limit n b s.mail)
 
 -- SHAPE: a range of another size
 unfoldable pub fresh_at : ℕ → List ℕ → After
-fresh_at limit b = cond (eqb (length b) (record_bytes limit)) (after (taken.Part 0) (record_of limit fresh)) (after taken.Shape b)
+fresh_at limit b = cond (eqb (length b) (record_bytes limit)) (after (Ok (taken.Part 0)) (record_of limit fresh)) (after (Err Shape) b)
 
 -- what is held goes on with the fragment. SHAPE: what is held is not the beginning of an envelope
 unfoldable pub resumed : ℕ → List ℕ → ℕ → ℕ → List ℕ → After
 resumed limit b n p f =
-    cond (unfinished limit (held_in n b)) (kept limit n b (joined limit p (held_in n b) f)) (after taken.Shape b)
+    cond (unfinished limit (held_in n b)) (kept limit n b (joined limit p (held_in n b) f)) (after (Err Shape) b)
 
 -- behind a finished envelope another begins; "fragments of no bytes" leave it where it stands
 unfoldable pub begun : ℕ → List ℕ → ℕ → ℕ → List ℕ → After
-begun limit b n p f = cond (eqb (length f) 0) (after (taken.Part 0) b) (kept limit n b (joined limit (later p n) [] f))
+begun limit b n p f = cond (eqb (length f) 0) (after (Ok (taken.Part 0)) b) (kept limit n b (joined limit (later p n) [] f))
 
 -- "After a refusal 20 to 23 the reader answers with the same refusal until it is made fresh". SHAPE: a range that is no record
-abbrev pub taken_by : ℕ → List ℕ → List ℕ → Loaded → After
-taken_by limit b f (Part n p) = resumed limit b n p f
-taken_by limit b f (Whole n p) = begun limit b n p f
-taken_by limit b f (Refused r) = after (taken.Refused r) b
-taken_by limit b f NoRecord = after taken.Shape b
+abbrev pub taken_by : ℕ → List ℕ → List ℕ → Loading → After
+taken_by limit b f (Ok (Part n p)) = resumed limit b n p f
+taken_by limit b f (Ok (Whole n p)) = begun limit b n p f
+taken_by limit b f (Err x) = after (Err x) b
 
 unfoldable pub take_at : ℕ → List ℕ → List ℕ → After
 take_at limit b f = taken_by limit b f (load_at limit b)
@@ -146,14 +149,13 @@ take_at limit b f = taken_by limit b f (load_at limit b)
 -- "CUT is given only when the host says the input has ended"
 unfoldable pub cut_short : ℕ → List ℕ → ℕ → ℕ → After
 cut_short limit b n p =
-    cond (eqb n 0) (after (taken.Part 0) b)
-    (cond (unfinished limit (held_in n b)) (after (taken.Refused Cut) (record_of limit (refused Cut p))) (after taken.Shape b))
+    cond (eqb n 0) (after (Ok (taken.Part 0)) b)
+    (cond (unfinished limit (held_in n b)) (after (Err (Refused Cut)) (record_of limit (refused Cut p))) (after (Err Shape) b))
 
-abbrev pub ended_by : ℕ → List ℕ → Loaded → After
-ended_by limit b (Part n p) = cut_short limit b n p
-ended_by limit b (Whole n p) = after (taken.Part 0) b
-ended_by limit b (Refused r) = after (taken.Refused r) b
-ended_by limit b NoRecord = after taken.Shape b
+abbrev pub ended_by : ℕ → List ℕ → Loading → After
+ended_by limit b (Ok (Part n p)) = cut_short limit b n p
+ended_by limit b (Ok (Whole n p)) = after (Ok (taken.Part 0)) b
+ended_by limit b (Err x) = after (Err x) b
 
 unfoldable pub end_at : ℕ → List ℕ → After
 end_at limit b = ended_by limit b (load_at limit b)

@@ -2,7 +2,6 @@
 ghost use Rattle.std.specs.Prelude.{◌≡◌};
 ghost use Rattle.fragments.specs.Missing.{missing};
 
-use envelope::Number;
 use envelope::groups::read_number;
 use envelope::reading::bytes_for;
 
@@ -10,19 +9,14 @@ use envelope::reading::bytes_for;
 pub(crate) fn lacking(s: &[u8]) -> usize
     ensures { result ≡ missing s.now }
 {
-    let first = read_number(s, 0);
-    let Number::Value(_, p) = first else {
+    let Ok((_, p)) = read_number(s, 0) else {
         return 1;
     };
-    let second = read_number(s, p);
-    let Number::Value(_, q) = second else {
+    let Ok((_, q)) = read_number(s, p) else {
         return 1;
     };
-    let third = read_number(s, q);
-    let Number::Value(bits, t) = third else {
+    let Ok((bits, t)) = read_number(s, q) else {
         return 1;
     };
-    let n = bytes_for(bits);
-    let there = s.len() - t;
-    if n < there { 0 } else { n - there }
+    bytes_for(bits).saturating_sub(s.len() - t)
 }

@@ -10,10 +10,15 @@ ghost use Rattle.fragments.specs.Reports.{is_refused, last_at, lines_at, page, s
 use crate::decimals::put_decimal;
 use crate::ending::end;
 use crate::putting::put_bytes;
-use crate::stored::{Loaded, count_in, load, place_in};
+use crate::stored::{count_in, load, place_in};
 use crate::taking::{place_behind, take};
-use crate::{Reported, Taken};
+use crate::{Taken, Untaken};
 use envelope::EnvelopeRefusal;
+
+// The bytes that a buffer has at least for a header or a last line, and for each byte of a fragment. A line takes this many at most.
+pub const LAST_ROOM: usize = 64;
+
+pub const LINE_ROOM: usize = 29;
 
 // Bytes, and the position after them.
 fn put_text(out: &mut [u8], at: usize, text: &[u8]) -> usize
@@ -56,65 +61,57 @@ fn put_refusal(out: &mut [u8], at: usize, r: EnvelopeRefusal, begin: u64) -> usi
     put_text(out, d, b"\n")
 }
 
+// Each of the three that follow answers the bytes that its text takes of the buffer; none where the buffer is too small for any such text.
+
 // The header, into a buffer of LAST_ROOM bytes at least.
-pub fn report_title(out: &mut [u8]) -> Reported
+#[tactic(auto, using(crate::proofs::Lines::no_title))]
+pub fn report_title(out: &mut [u8]) -> Option<usize>
     ensures { page result out.new ≡ title_at out.old }
 {
-    if out.len() < Reported::LAST_ROOM {
-        return Reported::Small;
+    if out.len() < LAST_ROOM {
+        return None;
     }
-    Reported::Bytes(put_text(out, 0, b"kind job bits\n"))
+    Some(put_text(out, 0, b"kind job bits\n"))
 }
 
 // A line for each envelope that the fragment finishes, into a buffer of LINE_ROOM bytes at least for each byte of it.
-pub fn report_lines(rec: &mut [u8], fragment: &[u8], out: &mut [u8]) -> Reported
+pub fn report_lines(rec: &mut [u8], fragment: &[u8], out: &mut [u8]) -> Option<usize>
     ensures { said result rec.new out.new ≡
         lines_at most_bits rec.old fragment.now out.old }
 {
-    if out.len() / Reported::LINE_ROOM < fragment.len() {
-        return Reported::Small;
+    if out.len() / LINE_ROOM < fragment.len() {
+        return None;
     }
     let mut p: usize = 0;
     let mut at: usize = 0;
-    let mut turns = fragment.len() + 1;
-    while 0 < turns {
-        let x = take(rec, &fragment[at..]);
-        match x {
-            Taken::Whole(e, n) => {
+    for turn in 0..fragment.len() + 1 {
+        match take(rec, &fragment[at..]) {
+            Ok(Taken::Whole(e, n)) => {
                 p = put_line(out, p, e.kind, e.job, e.bits);
                 at += n;
             }
-            Taken::Part(_) => {
-                return Reported::Bytes(p);
-            }
-            Taken::Refused(_) => {
-                return Reported::Bytes(p);
-            }
-            Taken::Shape => {
-                return Reported::Bytes(p);
-            }
+            Ok(Taken::Part(_)) => return Some(p),
+            Err(_) => return Some(p),
         }
-        turns -= 1;
     }
-    Reported::Bytes(p)
+    Some(p)
 }
 
 // The last line, into a buffer of LAST_ROOM bytes at least: the input has ended, or was refused.
-pub fn report_end(rec: &mut [u8], out: &mut [u8]) -> Reported
+pub fn report_end(rec: &mut [u8], out: &mut [u8]) -> Option<usize>
     ensures { said result rec.new out.new ≡ last_at most_bits rec.old out.old }
 {
-    if out.len() < Reported::LAST_ROOM {
-        return Reported::Small;
+    if out.len() < LAST_ROOM {
+        return None;
     }
-    let x = end(rec);
-    match x {
-        Taken::Part(_) => {
+    match end(rec) {
+        Ok(Taken::Part(_)) => {
             let read = place_behind(place_in(rec), count_in(rec));
-            Reported::Bytes(put_end(out, 0, read))
+            Some(put_end(out, 0, read))
         }
-        Taken::Refused(r) => Reported::Bytes(put_refusal(out, 0, r, place_in(rec))),
-        Taken::Whole(_, _) => Reported::Bytes(0),
-        Taken::Shape => Reported::Bytes(0),
+        Err(Untaken::Refused(r)) => Some(put_refusal(out, 0, r, place_in(rec))),
+        Ok(Taken::Whole(_, _)) => Some(0),
+        Err(Untaken::Shape) => Some(0),
     }
 }
 
@@ -122,11 +119,5 @@ pub fn report_end(rec: &mut [u8], out: &mut [u8]) -> Reported
 pub fn is_refused(rec: &[u8]) -> bool
     ensures { result ≡ is_refused (load_at most_bits rec.now) }
 {
-    let held = load(rec);
-    match held {
-        Loaded::Part(_, _) => false,
-        Loaded::Whole(_, _) => false,
-        Loaded::Refused(_) => true,
-        Loaded::NoRecord => false,
-    }
+    matches!(load(rec), Err(Untaken::Refused(_)))
 }

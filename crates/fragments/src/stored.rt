@@ -3,21 +3,19 @@ ghost use Rattle.std.specs.Prelude.{◌≡◌, ◌≤◌, length, get_or};
 ghost use Rattle.std.proofs.lemmas.List.Edits.{sets};
 ghost use Rattle.envelope.specs.Envelopes.{most_bits};
 ghost use Rattle.fragments.specs.Mail.{head};
-ghost use Rattle.fragments.specs.Record.{after, count_in, eight_of, empty_of, fresh_at, head_at, load_at, loaded_by, of_eight, of_two, place_in, record_bytes};
+ghost use Rattle.fragments.specs.Record.{after, count_in, empty_of, fresh_at, head_at, load_at, loaded_by, of_two, place_in, record_bytes};
 
-use crate::Taken;
 use crate::putting::{put_bytes, put_zeros};
+use crate::{Taken, Untaken};
 use envelope::EnvelopeRefusal;
 use words::Limit;
 
-// What a range says: the bytes that are held and where they begin, of an envelope that is not finished or of a finished one; or the
-// refusal.
+// What a range says that holds no refusal: the bytes that are held and where they begin, of an envelope that is not finished or of a finished
+// one.
 #[derive(Drop)]
 pub enum Loaded {
     Part(usize, u64),
     Whole(usize, u64),
-    Refused(EnvelopeRefusal),
-    NoRecord,
 }
 
 impl Loaded {
@@ -42,49 +40,26 @@ fn of_two(high: u8, low: u8) -> usize
     high as usize * 256 + low as usize
 }
 
-fn of_eight(a: u8, b: u8, c: u8, d: u8, e: u8, f: u8, g: u8, h: u8) -> u64
-    ensures { result ≡ of_eight a b c d e f g h }
-{
-    ((((((a as u64 * 256 + b as u64) * 256 + c as u64) * 256 + d as u64) * 256 + e as u64) * 256
-        + f as u64)
-        * 256
-        + g as u64)
-        * 256
-        + h as u64
-}
-
-fn load_by(state: u8, n: usize, place: u64) -> Loaded
+#[tactic(auto, unfolding(crate::specs::Record::loaded_by))]
+fn load_by(state: u8, n: usize, place: u64) -> Result<Loaded, Untaken>
     ensures { result ≡ loaded_by state n place }
 {
-    if state == Loaded::PART {
-        return Loaded::Part(n, place);
+    match state {
+        Loaded::PART => Ok(Loaded::Part(n, place)),
+        Loaded::WHOLE => Ok(Loaded::Whole(n, place)),
+        20 => Err(Untaken::Refused(EnvelopeRefusal::Cut)),
+        21 => Err(Untaken::Refused(EnvelopeRefusal::Groups)),
+        22 => Err(Untaken::Refused(EnvelopeRefusal::Kind)),
+        23 => Err(Untaken::Refused(EnvelopeRefusal::Size)),
+        _ => Err(Untaken::Shape),
     }
-    if state == Loaded::WHOLE {
-        return Loaded::Whole(n, place);
-    }
-    if state == 20 {
-        return Loaded::Refused(EnvelopeRefusal::Cut);
-    }
-    if state == 21 {
-        return Loaded::Refused(EnvelopeRefusal::Groups);
-    }
-    if state == 22 {
-        return Loaded::Refused(EnvelopeRefusal::Kind);
-    }
-    if state == 23 {
-        return Loaded::Refused(EnvelopeRefusal::Size);
-    }
-    Loaded::NoRecord
 }
 
 // A byte of a range; 0 where there is none.
 fn byte_at(rec: &[u8], i: usize) -> u8
     ensures { result ≡ get_or rec.now i 0 }
 {
-    if rec.len() <= i {
-        return 0;
-    }
-    rec[i]
+    if rec.len() <= i { 0 } else { rec[i] }
 }
 
 pub(crate) fn count_in(rec: &[u8]) -> usize
@@ -93,10 +68,11 @@ pub(crate) fn count_in(rec: &[u8]) -> usize
     of_two(byte_at(rec, 1), byte_at(rec, 2))
 }
 
+#[tactic(auto, unfolding(crate::specs::Record::of_eight))]
 pub(crate) fn place_in(rec: &[u8]) -> u64
     ensures { result ≡ place_in rec.now }
 {
-    of_eight(
+    u64::from_be_bytes([
         byte_at(rec, 3),
         byte_at(rec, 4),
         byte_at(rec, 5),
@@ -105,43 +81,21 @@ pub(crate) fn place_in(rec: &[u8]) -> u64
         byte_at(rec, 8),
         byte_at(rec, 9),
         byte_at(rec, 10),
-    )
+    ])
 }
 
 // What the bytes say.
-pub(crate) fn load(rec: &[u8]) -> Loaded
+pub(crate) fn load(rec: &[u8]) -> Result<Loaded, Untaken>
     ensures { result ≡ load_at most_bits rec.now }
 {
     if rec.len() != Loaded::SIZE {
-        return Loaded::NoRecord;
+        return Err(Untaken::Shape);
     }
     let n = count_in(rec);
     if Loaded::LARGEST < n {
-        return Loaded::NoRecord;
+        return Err(Untaken::Shape);
     }
     load_by(byte_at(rec, 0), n, place_in(rec))
-}
-
-fn eight_bytes(n: u64) -> [u8; 8]
-    ensures { result ≡ eight_of n }
-{
-    let a = n / 256;
-    let b = a / 256;
-    let c = b / 256;
-    let d = c / 256;
-    let e = d / 256;
-    let f = e / 256;
-    let g = f / 256;
-    [
-        (g % 256) as u8,
-        (f % 256) as u8,
-        (e % 256) as u8,
-        (d % 256) as u8,
-        (c % 256) as u8,
-        (b % 256) as u8,
-        (a % 256) as u8,
-        (n % 256) as u8,
-    ]
 }
 
 // The head of a record.
@@ -151,7 +105,7 @@ pub(crate) fn put_head(rec: &mut [u8], state: u8, n: usize, place: u64)
 {
     let front = [state, (n / 256 % 256) as u8, (n % 256) as u8];
     put_bytes(rec, 0, &front);
-    let back = eight_bytes(place);
+    let back = place.to_be_bytes();
     put_bytes(rec, 3, &back);
 }
 
@@ -166,12 +120,12 @@ pub(crate) fn put_empty(rec: &mut [u8], state: u8, place: u64)
 }
 
 // A fresh record.
-pub fn make_fresh(rec: &mut [u8]) -> Taken
+pub fn make_fresh(rec: &mut [u8]) -> Result<Taken, Untaken>
     ensures { after result rec.new ≡ fresh_at most_bits rec.old }
 {
     if rec.len() != Loaded::SIZE {
-        return Taken::Shape;
+        return Err(Untaken::Shape);
     }
     put_empty(rec, Loaded::PART, 0);
-    Taken::Part(0)
+    Ok(Taken::Part(0))
 }

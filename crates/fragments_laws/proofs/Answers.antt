@@ -13,14 +13,13 @@ use Rattle.envelope.specs.Envelopes.{envelope_at, refusal_number, largest, most_
 use Rattle.envelope.specs.Strings.{Ending, ended, stopped, walk}
 use Rattle.envelope.specs.declared.EnvelopeRefusal.{EnvelopeRefusal}
 use Rattle.envelope.specs.declared.EnvelopeRefusal.TheVariants.{Cut, Groups, Kind, Size}
-use Rattle.envelope.specs.declared.EnvelopeRead.{EnvelopeRead}
-use Rattle.envelope.specs.declared.EnvelopeRead.TheVariants as read
 use Rattle.envelope.proofs.Numbers.{AllBytes}
-use Rattle.fragments.specs.declared.Taken.TheVariants.{Part, Refused, Shape}
-use Rattle.fragments.specs.declared.stored.Loaded.{Loaded}
+use Rattle.fragments.specs.declared.Taken.{Taken}
+use Rattle.fragments.specs.declared.Taken.TheVariants.{Part}
+use Rattle.fragments.specs.declared.Untaken.TheVariants.{Refused, Shape}
 use Rattle.fragments.specs.declared.stored.Loaded.TheVariants as loaded
-use Rattle.fragments.specs.Mail.{Mail, part, whole, refused, fresh, is_cut, unfinished, onward, joined, top, later}
-use Rattle.fragments.specs.Record.{after, head_at, record_of, state_of, held_in, count_in, place_in, loaded_by, load_at, kept, resumed, begun, taken_by, take_at, cut_short, ended_by, end_at, record_bytes}
+use Rattle.fragments.specs.Mail.{Taking, Mail, part, whole, refused, fresh, is_cut, unfinished, onward, joined, top, later}
+use Rattle.fragments.specs.Record.{Loading, after, head_at, record_of, state_of, held_in, count_in, place_in, loaded_by, load_at, kept, resumed, begun, taken_by, take_at, cut_short, ended_by, end_at, record_bytes}
 use Rattle.fragments.specs.Cuts.{Fed, go_on, hand_over, hand_all, joined_up, leaves, whole_mail, stopped_at}
 use Rattle.fragments.proofs.Ranges.{bytes_append, bytes_front, bytes_back, bytes_drop}
 use Rattle.fragments.proofs.Unfinished.{Sized, next_within, next_largest, takes_some, none_open}
@@ -28,168 +27,170 @@ use Rattle.fragments.proofs.Calls.{sized}
 use Rattle.fragments.proofs.Whole.{Good, follow, good_follow}
 use Rattle.fragments.proofs.EveryCut.{stepped, take_held, take_behind, take_nothing, take_refused, hand_one, every_cut, good_fresh, Quiet, none, done, leaves_quiet, leaves_stopped, whole_mail_is}
 use Rattle.fragments_laws.specs.Claims.{Said, goes_on, refuses, no_record, said_by, said_of, said_last, whole_says_of, by_calls, by_whole}
+use Rattle.std.specs.Prelude.{Err, Ok, Result}
+use Rattle.envelope.specs.declared.Envelope.{Envelope}
 
 -- ---- one call, on any range and any fragment
 
-part_one : (n m : ℕ) → Part n ≡ Part m → n ≡ m
+part_one : (n m : ℕ) → ◌≡◌ {A = Taking} (Ok (Part n)) (Ok (Part m)) → n ≡ m
 part_one n m e = cc
 
-refused_one : (r q : EnvelopeRefusal) → Refused r ≡ Refused q → r ≡ q
+refused_one : (r q : EnvelopeRefusal) → ◌≡◌ {A = Taking} (Err (Refused r)) (Err (Refused q)) → r ≡ q
 refused_one r q e = cc
 
 clash : {A : Type 0} → ◌≡◌ {A = ℕ} 0 1 → A
 clash e = absurd (omega arith)
 
 -- "n bytes taken" of an envelope that is not finished: all bytes of the fragment
-pub all_taken : (limit : ℕ) (b f : List ℕ) (n : ℕ) → (take_at limit b f).answer ≡ Part n → n ≡ length f
+pub all_taken : (limit : ℕ) (b f : List ℕ) (n : ℕ) → (take_at limit b f).answer ≡ Ok (Part n) → n ≡ length f
 unfolding take_at resumed begun kept joined
 all_taken limit b f n = by (load_at limit b)
   where
-    stop : (p : ℕ) (h : List ℕ) (r : EnvelopeRefusal) → (onward p h f (read.Refused r)).answer ≡ Part n → n ≡ length f
+    stop : (p : ℕ) (h : List ℕ) (r : EnvelopeRefusal) → (onward p h f (Err r)).answer ≡ Ok (Part n) → n ≡ length f
     stop p h Cut e = sym (part_one (length f) n e)
     stop p h Groups e = clash (cc)
     stop p h Kind e = clash (cc)
     stop p h Size e = clash (cc)
 
-    on : (p : ℕ) (h : List ℕ) (x : EnvelopeRead) → (onward p h f x).answer ≡ Part n → n ≡ length f
-    on p h (read.Is c) e = clash (cc)
-    on p h (read.Refused r) e = stop p h r e
+    on : (p : ℕ) (h : List ℕ) (x : Result Envelope EnvelopeRefusal) → (onward p h f x).answer ≡ Ok (Part n) → n ≡ length f
+    on p h (Ok c) e = clash (cc)
+    on p h (Err r) e = stop p h r e
 
-    resume : (m p : ℕ) (t : Bool) → (cond t (kept limit m b (joined limit p (held_in m b) f)) (after Shape b)).answer ≡ Part n → n ≡ length f
+    resume : (m p : ℕ) (t : Bool) → (cond t (kept limit m b (joined limit p (held_in m b) f)) (after (Err Shape) b)).answer ≡ Ok (Part n) → n ≡ length f
     resume m p true e = on p (held_in m b) (envelope_at limit (held_in m b ++ f) 0) e
     resume m p false e = clash (cc)
 
     next : (m p : ℕ) (t : Bool) → eqb (length f) 0 ≡ t
-        → (cond t (after (Part 0) b) (kept limit m b (joined limit (later p m) [] f))).answer ≡ Part n → n ≡ length f
+        → (cond t (after (Ok (Part 0)) b) (kept limit m b (joined limit (later p m) [] f))).answer ≡ Ok (Part n) → n ≡ length f
     next m p true q e = sym (part_one 0 n e) ∙ sym (eqb-true (length f) 0 q)
     next m p false q e = on (later p m) [] (envelope_at limit f 0) e
 
-    by : (x : Loaded) → (taken_by limit b f x).answer ≡ Part n → n ≡ length f
-    by (loaded.Part m p) e = resume m p (unfinished limit (held_in m b)) e
-    by (loaded.Whole m p) e = next m p (eqb (length f) 0) refl e
-    by (loaded.Refused r) e = clash (cc)
-    by loaded.NoRecord e = clash (cc)
+    by : (x : Loading) → (taken_by limit b f x).answer ≡ Ok (Part n) → n ≡ length f
+    by (Ok (loaded.Part m p)) e = resume m p (unfinished limit (held_in m b)) e
+    by (Ok (loaded.Whole m p)) e = next m p (eqb (length f) 0) refl e
+    by (Err (Refused r)) e = clash (cc)
+    by (Err Shape) e = clash (cc)
 
 -- the first byte of a record that holds a refusal is its number
 head_state : (limit : ℕ) (m : Mail) → get_or (record_of limit m) 0 0 ≡ state_of m
 unfolding record_of head_at
 head_state limit m = refl
 
-loaded_state : (limit : ℕ) (b : List ℕ) (r : EnvelopeRefusal) → load_at limit b ≡ loaded.Refused r → get_or b 0 0 ≡ refusal_number r
+loaded_state : (limit : ℕ) (b : List ℕ) (r : EnvelopeRefusal) → load_at limit b ≡ Err (Refused r) → get_or b 0 0 ≡ refusal_number r
 unfolding load_at loaded_by
 loaded_state limit b r e = size (eqb (length b) (record_bytes limit) && leb (count_in b) (largest limit)) e
   where
     s : ℕ
     s = get_or b 0 0
 
-    one : (q : EnvelopeRefusal) → loaded.Refused q ≡ loaded.Refused r → q ≡ r
+    one : (q : EnvelopeRefusal) → ◌≡◌ {A = Loading} (Err (Refused q)) (Err (Refused r)) → q ≡ r
     one q u = cc
 
-    is : (q : EnvelopeRefusal) → eqb (get_or b 0 0) (refusal_number q) ≡ true → loaded.Refused q ≡ loaded.Refused r
+    is : (q : EnvelopeRefusal) → eqb (get_or b 0 0) (refusal_number q) ≡ true → ◌≡◌ {A = Loading} (Err (Refused q)) (Err (Refused r))
         → get_or b 0 0 ≡ refusal_number r
     is q t u = eqb-true (get_or b 0 0) (refusal_number q) t ∙ ap refusal_number (one q u)
 
-    d : (t : Bool) → eqb (get_or b 0 0) 23 ≡ t → cond t (loaded.Refused Size) loaded.NoRecord ≡ loaded.Refused r
+    d : (t : Bool) → eqb (get_or b 0 0) 23 ≡ t → cond {A = Loading} t (Err (Refused Size)) (Err Shape) ≡ Err (Refused r)
         → get_or b 0 0 ≡ refusal_number r
     d true q u = is Size q u
     d false q u = clash (cc)
 
     c : (t : Bool) → eqb (get_or b 0 0) 22 ≡ t
-        → cond t (loaded.Refused Kind) (cond (eqb (get_or b 0 0) 23) (loaded.Refused Size) loaded.NoRecord) ≡ loaded.Refused r
+        → cond {A = Loading} t (Err (Refused Kind)) (cond (eqb (get_or b 0 0) 23) (Err (Refused Size)) (Err Shape)) ≡ Err (Refused r)
         → get_or b 0 0 ≡ refusal_number r
     c true q u = is Kind q u
     c false q u = d (eqb (get_or b 0 0) 23) refl u
 
     g : (t : Bool) → eqb (get_or b 0 0) 21 ≡ t
-        → cond t (loaded.Refused Groups) (cond (eqb (get_or b 0 0) 22) (loaded.Refused Kind) (cond (eqb (get_or b 0 0) 23) (loaded.Refused Size) loaded.NoRecord)) ≡ loaded.Refused r
+        → cond {A = Loading} t (Err (Refused Groups)) (cond (eqb (get_or b 0 0) 22) (Err (Refused Kind)) (cond (eqb (get_or b 0 0) 23) (Err (Refused Size)) (Err Shape))) ≡ Err (Refused r)
         → get_or b 0 0 ≡ refusal_number r
     g true q u = is Groups q u
     g false q u = c (eqb (get_or b 0 0) 22) refl u
 
     k : (t : Bool) → eqb (get_or b 0 0) 20 ≡ t
-        → cond t (loaded.Refused Cut) (cond (eqb (get_or b 0 0) 21) (loaded.Refused Groups) (cond (eqb (get_or b 0 0) 22) (loaded.Refused Kind) (cond (eqb (get_or b 0 0) 23) (loaded.Refused Size) loaded.NoRecord))) ≡ loaded.Refused r
+        → cond {A = Loading} t (Err (Refused Cut)) (cond (eqb (get_or b 0 0) 21) (Err (Refused Groups)) (cond (eqb (get_or b 0 0) 22) (Err (Refused Kind)) (cond (eqb (get_or b 0 0) 23) (Err (Refused Size)) (Err Shape)))) ≡ Err (Refused r)
         → get_or b 0 0 ≡ refusal_number r
     k true q u = is Cut q u
     k false q u = g (eqb (get_or b 0 0) 21) refl u
 
     w : (t : Bool)
-        → cond t (loaded.Whole (count_in b) (place_in b)) (cond (eqb (get_or b 0 0) 20) (loaded.Refused Cut) (cond (eqb (get_or b 0 0) 21) (loaded.Refused Groups) (cond (eqb (get_or b 0 0) 22) (loaded.Refused Kind) (cond (eqb (get_or b 0 0) 23) (loaded.Refused Size) loaded.NoRecord)))) ≡ loaded.Refused r
+        → cond {A = Loading} t (Ok (loaded.Whole (count_in b) (place_in b))) (cond (eqb (get_or b 0 0) 20) (Err (Refused Cut)) (cond (eqb (get_or b 0 0) 21) (Err (Refused Groups)) (cond (eqb (get_or b 0 0) 22) (Err (Refused Kind)) (cond (eqb (get_or b 0 0) 23) (Err (Refused Size)) (Err Shape))))) ≡ Err (Refused r)
         → get_or b 0 0 ≡ refusal_number r
     w true u = clash (cc)
     w false u = k (eqb (get_or b 0 0) 20) refl u
 
     p : (t : Bool)
-        → cond t (loaded.Part (count_in b) (place_in b)) (cond (eqb (get_or b 0 0) 1) (loaded.Whole (count_in b) (place_in b)) (cond (eqb (get_or b 0 0) 20) (loaded.Refused Cut) (cond (eqb (get_or b 0 0) 21) (loaded.Refused Groups) (cond (eqb (get_or b 0 0) 22) (loaded.Refused Kind) (cond (eqb (get_or b 0 0) 23) (loaded.Refused Size) loaded.NoRecord))))) ≡ loaded.Refused r
+        → cond {A = Loading} t (Ok (loaded.Part (count_in b) (place_in b))) (cond (eqb (get_or b 0 0) 1) (Ok (loaded.Whole (count_in b) (place_in b))) (cond (eqb (get_or b 0 0) 20) (Err (Refused Cut)) (cond (eqb (get_or b 0 0) 21) (Err (Refused Groups)) (cond (eqb (get_or b 0 0) 22) (Err (Refused Kind)) (cond (eqb (get_or b 0 0) 23) (Err (Refused Size)) (Err Shape)))))) ≡ Err (Refused r)
         → get_or b 0 0 ≡ refusal_number r
     p true u = clash (cc)
     p false u = w (eqb (get_or b 0 0) 1) u
 
-    size : (t : Bool) → cond t (loaded_by (get_or b 0 0) (count_in b) (place_in b)) loaded.NoRecord ≡ loaded.Refused r
+    size : (t : Bool) → cond {A = Loading} t (loaded_by (get_or b 0 0) (count_in b) (place_in b)) (Err Shape) ≡ Err (Refused r)
         → get_or b 0 0 ≡ refusal_number r
     size true u = p (eqb (get_or b 0 0) 0) u
     size false u = clash (cc)
 
 -- the refusal that a fragment is answered with is the one that the record then holds
-pub refusal_held : (limit : ℕ) (b f : List ℕ) (r : EnvelopeRefusal) → (take_at limit b f).answer ≡ Refused r
+pub refusal_held : (limit : ℕ) (b f : List ℕ) (r : EnvelopeRefusal) → (take_at limit b f).answer ≡ Err (Refused r)
     → get_or (take_at limit b f).bytes 0 0 ≡ refusal_number r
 unfolding take_at resumed begun kept joined
 refusal_held limit b f r = by (load_at limit b) refl
   where
-    met : (q : EnvelopeRefusal) (p : ℕ) → Refused q ≡ Refused r → get_or (record_of limit (refused q p)) 0 0 ≡ refusal_number r
+    met : (q : EnvelopeRefusal) (p : ℕ) → ◌≡◌ {A = Taking} (Err (Refused q)) (Err (Refused r)) → get_or (record_of limit (refused q p)) 0 0 ≡ refusal_number r
     met q p e = head_state limit (refused q p) ∙ ap refusal_number (refused_one q r e)
 
-    on : (m p : ℕ) (h : List ℕ) (x : EnvelopeRead) → (kept limit m b (onward p h f x)).answer ≡ Refused r
+    on : (m p : ℕ) (h : List ℕ) (x : Result Envelope EnvelopeRefusal) → (kept limit m b (onward p h f x)).answer ≡ Err (Refused r)
         → get_or (kept limit m b (onward p h f x)).bytes 0 0 ≡ refusal_number r
-    on m p h (read.Is c) e = clash (cc)
-    on m p h (read.Refused Cut) e = clash (cc)
-    on m p h (read.Refused Groups) e = met Groups p e
-    on m p h (read.Refused Kind) e = met Kind p e
-    on m p h (read.Refused Size) e = met Size p e
+    on m p h (Ok c) e = clash (cc)
+    on m p h (Err Cut) e = clash (cc)
+    on m p h (Err Groups) e = met Groups p e
+    on m p h (Err Kind) e = met Kind p e
+    on m p h (Err Size) e = met Size p e
 
     resume : (m p : ℕ) (t : Bool)
-        → (cond t (kept limit m b (joined limit p (held_in m b) f)) (after Shape b)).answer ≡ Refused r
-        → get_or (cond t (kept limit m b (joined limit p (held_in m b) f)) (after Shape b)).bytes 0 0 ≡ refusal_number r
+        → (cond t (kept limit m b (joined limit p (held_in m b) f)) (after (Err Shape) b)).answer ≡ Err (Refused r)
+        → get_or (cond t (kept limit m b (joined limit p (held_in m b) f)) (after (Err Shape) b)).bytes 0 0 ≡ refusal_number r
     resume m p true e = on m p (held_in m b) (envelope_at limit (held_in m b ++ f) 0) e
     resume m p false e = clash (cc)
 
     next : (m p : ℕ) (t : Bool)
-        → (cond t (after (Part 0) b) (kept limit m b (joined limit (later p m) [] f))).answer ≡ Refused r
-        → get_or (cond t (after (Part 0) b) (kept limit m b (joined limit (later p m) [] f))).bytes 0 0 ≡ refusal_number r
+        → (cond t (after (Ok (Part 0)) b) (kept limit m b (joined limit (later p m) [] f))).answer ≡ Err (Refused r)
+        → get_or (cond t (after (Ok (Part 0)) b) (kept limit m b (joined limit (later p m) [] f))).bytes 0 0 ≡ refusal_number r
     next m p true e = clash (cc)
     next m p false e = on m (later p m) [] (envelope_at limit f 0) e
 
-    by : (x : Loaded) → load_at limit b ≡ x → (taken_by limit b f x).answer ≡ Refused r
+    by : (x : Loading) → load_at limit b ≡ x → (taken_by limit b f x).answer ≡ Err (Refused r)
         → get_or (taken_by limit b f x).bytes 0 0 ≡ refusal_number r
-    by (loaded.Part m p) q e = resume m p (unfinished limit (held_in m b)) e
-    by (loaded.Whole m p) q e = next m p (eqb (length f) 0) e
-    by (loaded.Refused x) q e = loaded_state limit b x q ∙ ap refusal_number (refused_one x r e)
-    by loaded.NoRecord q e = clash (cc)
+    by (Ok (loaded.Part m p)) q e = resume m p (unfinished limit (held_in m b)) e
+    by (Ok (loaded.Whole m p)) q e = next m p (eqb (length f) 0) e
+    by (Err (Refused x)) q e = loaded_state limit b x q ∙ ap refusal_number (refused_one x r e)
+    by (Err Shape) q e = clash (cc)
 
 -- the same of the end of the input
-pub end_held : (limit : ℕ) (b : List ℕ) (r : EnvelopeRefusal) → (end_at limit b).answer ≡ Refused r
+pub end_held : (limit : ℕ) (b : List ℕ) (r : EnvelopeRefusal) → (end_at limit b).answer ≡ Err (Refused r)
     → get_or (end_at limit b).bytes 0 0 ≡ refusal_number r
 unfolding end_at cut_short
 end_held limit b r = by (load_at limit b) refl
   where
     met : (p : ℕ) (t : Bool)
-        → (cond t (after (Refused Cut) (record_of limit (refused Cut p))) (after Shape b)).answer ≡ Refused r
-        → get_or (cond t (after (Refused Cut) (record_of limit (refused Cut p))) (after Shape b)).bytes 0 0 ≡ refusal_number r
+        → (cond t (after (Err (Refused Cut)) (record_of limit (refused Cut p))) (after (Err Shape) b)).answer ≡ Err (Refused r)
+        → get_or (cond t (after (Err (Refused Cut)) (record_of limit (refused Cut p))) (after (Err Shape) b)).bytes 0 0 ≡ refusal_number r
     met p true e = head_state limit (refused Cut p) ∙ ap refusal_number (refused_one Cut r e)
     met p false e = clash (cc)
 
     cut : (n p : ℕ) (t : Bool)
-        → (cond t (after (Part 0) b) (cond (unfinished limit (held_in n b)) (after (Refused Cut) (record_of limit (refused Cut p))) (after Shape b))).answer ≡ Refused r
-        → get_or (cond t (after (Part 0) b) (cond (unfinished limit (held_in n b))
-        (after (Refused Cut) (record_of limit (refused Cut p))) (after Shape b))).bytes 0 0 ≡ refusal_number
+        → (cond t (after (Ok (Part 0)) b) (cond (unfinished limit (held_in n b)) (after (Err (Refused Cut)) (record_of limit (refused Cut p))) (after (Err Shape) b))).answer ≡ Err (Refused r)
+        → get_or (cond t (after (Ok (Part 0)) b) (cond (unfinished limit (held_in n b))
+        (after (Err (Refused Cut)) (record_of limit (refused Cut p))) (after (Err Shape) b))).bytes 0 0 ≡ refusal_number
         r
     cut n p true e = clash (cc)
     cut n p false e = met p (unfinished limit (held_in n b)) e
 
-    by : (x : Loaded) → load_at limit b ≡ x → (ended_by limit b x).answer ≡ Refused r → get_or (ended_by limit b x).bytes 0 0 ≡ refusal_number r
-    by (loaded.Part m p) q e = cut m p (eqb m 0) e
-    by (loaded.Whole m p) q e = clash (cc)
-    by (loaded.Refused x) q e = loaded_state limit b x q ∙ ap refusal_number (refused_one x r e)
-    by loaded.NoRecord q e = clash (cc)
+    by : (x : Loading) → load_at limit b ≡ x → (ended_by limit b x).answer ≡ Err (Refused r) → get_or (ended_by limit b x).bytes 0 0 ≡ refusal_number r
+    by (Ok (loaded.Part m p)) q e = cut m p (eqb m 0) e
+    by (Ok (loaded.Whole m p)) q e = clash (cc)
+    by (Err (Refused x)) q e = loaded_state limit b x q ∙ ap refusal_number (refused_one x r e)
+    by (Err Shape) q e = clash (cc)
 
 -- ---- every way of cutting
 
@@ -229,19 +230,19 @@ module _ (limit : ℕ) (z : Sized limit) where
   hand_on k b f = refl
 
   -- a fragment behind what is unfinished, if the rest of it goes on as it should
-  module _ (k p : ℕ) (b h f : List ℕ) (c : envelope_at limit h 0 ≡ read.Refused Cut) (bytes : AllBytes (h ++ f)) (size : length f ≤ k) (e : take_at limit b f ≡ stepped limit z (joined limit p h f))
+  module _ (k p : ℕ) (b h f : List ℕ) (c : envelope_at limit h 0 ≡ Err Cut) (bytes : AllBytes (h ++ f)) (size : length f ≤ k) (e : take_at limit b f ≡ stepped limit z (joined limit p h f))
       (ih : (m : Mail) (v : List ℕ) → Good limit m → AllBytes v → length v < k → said_of limit k (record_of limit m) v ≡
       record_says (hand_over limit k (record_of limit m) v).bytes)
       (good : p ≤ top) where
-    joined_by : (x : EnvelopeRead) → envelope_at limit (h ++ f) 0 ≡ x
+    joined_by : (x : Result Envelope EnvelopeRefusal) → envelope_at limit (h ++ f) 0 ≡ x
         → said_by (onward p h f x).answer (λ (n : ℕ). said_of limit k (record_of limit (onward p h f x).mail) (drop n f))
         ≡ record_says (go_on (onward p h f x).answer (record_of limit (onward p h f x).mail)
         (λ (n : ℕ). hand_over limit k (record_of limit (onward p h f x).mail) (drop n f))).bytes
-    joined_by (read.Refused Cut) q = sym (record_says_is limit (part p (h ++ f)))
-    joined_by (read.Refused Groups) q = sym (record_says_is limit (refused Groups p))
-    joined_by (read.Refused Kind) q = sym (record_says_is limit (refused Kind p))
-    joined_by (read.Refused Size) q = sym (record_says_is limit (refused Size p))
-    joined_by (read.Is d) q =
+    joined_by (Err Cut) q = sym (record_says_is limit (part p (h ++ f)))
+    joined_by (Err Groups) q = sym (record_says_is limit (refused Groups p))
+    joined_by (Err Kind) q = sym (record_says_is limit (refused Kind p))
+    joined_by (Err Size) q = sym (record_says_is limit (refused Size p))
+    joined_by (Ok d) q =
         let n = next_within limit z (h ++ f) bytes d q in
         let o = takes_some limit z h f bytes d c q in
         let a = length-append h f in

@@ -1,13 +1,13 @@
 -- Document 02, E4: "For every way of cutting a byte string, with fragments of no bytes among them, the envelopes, the refusal and the record
 -- after it equal those of reading the string whole." Crate fragments has the envelopes and the record; here is all that a host sees, with
 -- the answer to the last call.
-use Rattle.std.specs.Prelude.{ℕ, zero, suc, cond, List, [], ◌∷◌, length, drop}
+use Rattle.std.specs.Prelude.{ℕ, zero, suc, cond, List, [], ◌∷◌, length, drop, Err, Ok}
 use Rattle.envelope.specs.Envelopes.{Content}
 use Rattle.envelope.specs.Strings.{Ending, ended, stopped, walk}
 use Rattle.envelope.specs.declared.EnvelopeRefusal.{EnvelopeRefusal}
-use Rattle.fragments.specs.declared.Taken.{Taken}
-use Rattle.fragments.specs.declared.Taken.TheVariants.{Whole, Part, Refused, Shape}
-use Rattle.fragments.specs.Mail.{fresh, is_cut}
+use Rattle.fragments.specs.declared.Taken.TheVariants.{Whole, Part}
+use Rattle.fragments.specs.declared.Untaken.TheVariants.{Refused, Shape}
+use Rattle.fragments.specs.Mail.{Taking, fresh, is_cut}
 use Rattle.fragments.specs.Record.{record_of, take_at}
 use Rattle.fragments.specs.Cuts.{Fed, hand_over, hand_all, whole_read}
 
@@ -18,11 +18,11 @@ pub data Said : Type 0 where
   no_record : Said
 
 -- a finished envelope is followed by a call with the rest of the fragment
-abbrev pub said_by : Taken → (ℕ → Said) → Said
-said_by (Whole e n) k = k n
-said_by (Part n) k = goes_on
-said_by (Refused r) k = refuses r
-said_by Shape k = no_record
+abbrev pub said_by : Taking → (ℕ → Said) → Said
+said_by (Ok (Whole e n)) k = k n
+said_by (Ok (Part n)) k = goes_on
+said_by (Err (Refused r)) k = refuses r
+said_by (Err Shape) k = no_record
 
 -- of one fragment, as `hand_over` hands it over
 unfoldable pub said_of : ℕ → ℕ → List ℕ → List ℕ → Said

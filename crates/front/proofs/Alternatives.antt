@@ -8,65 +8,58 @@ use native.Mathlib.Omega.{arith}
 use borrow.Author.Tests.{eq-eqb, leb-true, ltb-true, eqb-true, eqb-false}
 use lib.Dec.{leb, ltb, eqb}
 use lib.ListN.{length, take, drop, length-append}
-use Rattle.words.proofs.Laws.{both_left, both_right}
+use Rattle.words.proofs.Laws.{both_left, both_right, ok_value, ok_place}
 use Rattle.bits.specs.Bits.{bits_n}
 use Rattle.bits.proofs.Numbers.{Bits, bits_bits_n, length_bits_n}
 use Rattle.bits.proofs.Bytes.{bits_append}
-use Rattle.fields.specs.Fields.{refused_at, then, bit_field, digits_in, width_of, whole_number, extensible_index, onto}
+use Rattle.fields.specs.Fields.{refused_at, then, bit_field, digits_in, width_of, whole_number, extensible_index}
 use Rattle.fields.specs.Encodings.{index_bits, whole_bits, whole_fits}
 use Rattle.fields.specs.declared.Refusal.{Refusal}
 use Rattle.fields.specs.declared.Fault.TheVariants.{Default}
-use Rattle.fields.specs.declared.Field.TheVariants.{Value, Refused}
 use Rattle.fields.proofs.RoundTrip.{Stands, stands_join, stands_split, bit_field_is, whole_number_is, extensible_index_is}
-use Rattle.fields.proofs.RoundTrip as fields
 use Rattle.fields.proofs.Writers.{length_index, length_whole}
 use Rattle.machine.specs.declared.event.UserData.{UserData as Pdu}
 use Rattle.machine.specs.declared.event.UserData.TheVariants as pdu
 use Rattle.pdus.specs.declared.Content.{Content}
 use Rattle.front.specs.declared.Found.{Found}
-use Rattle.front.specs.declared.Taken.{Taken}
-use Rattle.front.specs.declared.Taken.TheVariants as taken
-use Rattle.front.specs.declared.Reached.{Reached}
-use Rattle.front.specs.declared.Reached.TheVariants as reached
 use Rattle.front.specs.Body.{Lent, one, Body, Alternative, Choice}
 use Rattle.front.specs.Runs.{no_content}
 use Rattle.front.specs.Alternatives.{with, number_of, enumerated, reach, holding, mode_last, mode_bits, mode_value, mode_at, Moded, behind_mode, moded}
 use Rattle.front.specs.Editions.{Edition, response_last, aircraft_body, aircraft_pdus, ground_body, ground_pdus}
 use Rattle.front.specs.Apdus.{index_of}
 use Rattle.apdu.proofs.Bounds.{never}
-use Rattle.apdu.proofs.Contents.{via, stands_at, stands_none}
-use Rattle.front.proofs.Laws.{AreBits, Back, alternative_most, body_most, BodyLaws, Laws, ChoiceLaws}
+use Rattle.apdu.proofs.Contents.{stands_at, stands_none}
+use Rattle.front.proofs.Laws.{via, AreBits, Back, alternative_most, body_most, BodyLaws, Laws, ChoiceLaws}
+use Rattle.std.specs.Prelude.{Err, Ok}
+use Rattle.fields.specs.Fields.{Reading}
 
 -- ---- a number
 
 pub record NumberIs (last : ℕ) (p : ℕ → Pdu) (l : List ℕ) (at next : ℕ) (x : Found) : Type 0 where
   pub number : ℕ
-  pub index : extensible_index l at last ≡ Value number next
+  pub index : extensible_index l at last ≡ Ok (number, next)
   pub pdu : x.pdu ≡ p number
   pub content : x.content ≡ no_content
 
 module _ (last : ℕ) (p : ℕ → Pdu) where
-  pub number_is : (l : List ℕ) (at next : ℕ) (x : Found) → (enumerated last p).read l at ≡ reached.Is x next → NumberIs last p l at next x
+  pub number_is : (l : List ℕ) (at next : ℕ) (x : Found) → (enumerated last p).read l at ≡ Ok (x, next) → NumberIs last p l at next x
   number_is l at next x e =
-      via (NumberIs last p l at next x) reached.Refused (reached.Is x next) apart (extensible_index l at last) _ (λ (v n : ℕ) (f : extensible_index l at last ≡ Value v n) (k : reached.Is (with (p v) no_content) n ≡ reached.Is x next).
-      let y : with (p v) no_content ≡ x = cc in
-      let z : n ≡ next = cc in
-      record { number = v; index = f ∙ ap (Value v) z; pdu = sym (ap (λ (w : Found). w.pdu) y); content = sym (ap (λ (w : Found). w.content) y) }) e
-    where
-      apart : (r : Refusal) → reached.Refused r ≡ reached.Is x next → NumberIs last p l at next x
-      apart r k = never (cc)
+      via (NumberIs last p l at next x) (extensible_index l at last) _ (x, next) (λ (v n : ℕ) (f : extensible_index l at last ≡ Ok (v, n)) (k : ◌≡◌ {A = Reading Found} (Ok (with (p v) no_content, n)) (Ok (x, next))).
+      let y : with (p v) no_content ≡ x = ok_value k in
+      let z : n ≡ next = ok_place k in
+      record { number = v; index = f ∙ ap (λ (place : ℕ). Ok (v, place)) z; pdu = sym (ap (λ (w : Found). w.pdu) y); content = sym (ap (λ (w : Found). w.content) y) }) e
 
   module _ (small : last < 2 ^ 64) (keeps : (v : ℕ) → number_of (p v) ≡ v) (width : (v : ℕ) → length (index_bits last v) ≤ alternative_most) where
     number_same : (l : List ℕ) (at next : ℕ) (x : Found) (i : NumberIs last p l at next x) → number_of x.pdu ≡ i.number
     number_same l at next x i = ap number_of i.pdu ∙ keeps i.number
 
-    number_stands : (l : List ℕ) (at next : ℕ) (x : Found) → Bits l → (enumerated last p).read l at ≡ reached.Is x next
+    number_stands : (l : List ℕ) (at next : ℕ) (x : Found) → Bits l → (enumerated last p).read l at ≡ Ok (x, next)
         → Stands l at (index_bits last (number_of x.pdu)) next
     number_stands l at next x b e =
         let i = number_is l at next x e in
         rw (number_same l at next x i) ((extensible_index_is last small).read_written l at i.number next b i.index)
 
-    number_fits : (l : List ℕ) (at next : ℕ) (x : Found) → Bits l → (enumerated last p).read l at ≡ reached.Is x next
+    number_fits : (l : List ℕ) (at next : ℕ) (x : Found) → Bits l → (enumerated last p).read l at ≡ Ok (x, next)
         → whole_fits 0 last (number_of x.pdu) ≡ true
     number_fits l at next x b e =
         let i = number_is l at next x e in
@@ -83,28 +76,28 @@ module _ (last : ℕ) (p : ℕ → Pdu) where
               record { found = with (p v) no_content; read = rw ((extensible_index_is last small).written_read l at v next h s); same = keeps v };
           read_stands = number_fits;
           read_plain = λ (l : List ℕ) (at next : ℕ) (x : Found) (b : Bits l)
-              (e : (enumerated last p).read l at ≡ reached.Is x next). (number_stands l at next x b e).holds;
+              (e : (enumerated last p).read l at ≡ Ok (x, next)). (number_stands l at next x b e).holds;
           unextended = λ (l : List ℕ) (at next : ℕ) (x : Found) (b : Bits l)
-              (e : (enumerated last p).read l at ≡ reached.Is x next) (n : false ≡ false). number_stands l at next x b
+              (e : (enumerated last p).read l at ≡ Ok (x, next)) (n : false ≡ false). number_stands l at next x b
               e;
           clear = λ (l : List ℕ) (at next : ℕ) (x : Found) (s : Stands l at (index_bits last (number_of x.pdu)) next). refl;
         }
 
 -- ---- a body
 
-record Held (p : Pdu) (t : Taken) (next : ℕ) (x : Found) : Type 0 where
-  content : t ≡ taken.Is x.content next
+record Held (p : Pdu) (t : Reading Content) (next : ℕ) (x : Found) : Type 0 where
+  content : t ≡ Ok (x.content, next)
   pdu : x.pdu ≡ p
 
-held : (p : Pdu) (t : Taken) (next : ℕ) (x : Found) → reach p t ≡ reached.Is x next → Held p t next x
-held p (taken.Is c n) next x e =
-    let y : with p c ≡ x = cc in
-    let z : n ≡ next = cc in
-    record { content = ap (taken.Is c) z ∙ ap (λ (w : Found). taken.Is w.content next) y; pdu = sym (ap (λ (w : Found). w.pdu) y) }
-held p (taken.Refused r) next x e = never (cc)
+held : (p : Pdu) (t : Reading Content) (next : ℕ) (x : Found) → reach p t ≡ Ok (x, next) → Held p t next x
+held p (Ok (c, n)) next x e =
+    let y : with p c ≡ x = ok_value e in
+    let z : n ≡ next = ok_place e in
+    record { content = ap (λ (place : ℕ). Ok (c, place)) z ∙ ap (λ (w : Found). Ok (w.content, next)) y; pdu = sym (ap (λ (w : Found). w.pdu) y) }
+held p (Err r) next x e = never (cc)
 
 module _ (p : Pdu) (b : Body) (laws : BodyLaws b) where
-  holding_stands : (l : List ℕ) (at next : ℕ) (x : Found) → Bits l → reach p (b.read l at) ≡ reached.Is x next
+  holding_stands : (l : List ℕ) (at next : ℕ) (x : Found) → Bits l → reach p (b.read l at) ≡ Ok (x, next)
       → eqb (number_of x.pdu) (number_of p) && b.stands (one l) x.content ≡ true
   holding_stands l at next x bl e =
       let i = held p (b.read l at) next x e in
@@ -122,10 +115,10 @@ module _ (p : Pdu) (b : Body) (laws : BodyLaws b) where
             record { found = with p t.content; read = ap (reach p) t.read; same = t.same };
         read_stands = holding_stands;
         read_plain = λ (l : List ℕ) (at next : ℕ) (x : Found) (bl : Bits l)
-            (e : reach p (b.read l at) ≡ reached.Is x next). laws.read_plain l at next x.content bl
+            (e : reach p (b.read l at) ≡ Ok (x, next)). laws.read_plain l at next x.content bl
             (held p (b.read l at) next x e).content;
         unextended = λ (l : List ℕ) (at next : ℕ) (x : Found) (bl : Bits l)
-            (e : reach p (b.read l at) ≡ reached.Is x next). laws.unextended l at next x.content bl
+            (e : reach p (b.read l at) ≡ Ok (x, next)). laws.unextended l at next x.content bl
             (held p (b.read l at) next x e).content;
         clear = λ (l : List ℕ) (at next : ℕ) (x : Found). laws.clear l at next x.content;
       }
@@ -133,16 +126,16 @@ module _ (p : Pdu) (b : Body) (laws : BodyLaws b) where
 -- ---- a mode
 
 value_written : (l : List ℕ) (at m next : ℕ) → whole_fits 0 mode_last m ≡ true → eqb m 0 ≡ false
-    → Stands l at (whole_bits 0 mode_last m) next → mode_value l at ≡ Value m next
+    → Stands l at (whole_bits 0 mode_last m) next → mode_value l at ≡ Ok (m, next)
 unfolding mode_value
 value_written l at m next h e s = rw ((whole_number_is 0 mode_last (omega arith)).written_read l at m next h s, e)
 
-mode_written : (l : List ℕ) (at m next : ℕ) → whole_fits 0 mode_last m ≡ true → Stands l at (mode_bits m) next → mode_at l at ≡ Value m next
+mode_written : (l : List ℕ) (at m next : ℕ) → whole_fits 0 mode_last m ≡ true → Stands l at (mode_bits m) next → mode_at l at ≡ Ok (m, next)
 unfolding mode_bits mode_at
 mode_written l at m next h s = go (eqb m 0) refl s
   where
     go : (t : Bool) → eqb m 0 ≡ t → Stands l at (cond t (bits_n 1 0) (bits_n 1 1 ++ whole_bits 0 mode_last m)) next
-        → then (bit_field l at 1) (λ (p n : ℕ). cond (eqb p 0) (Value 0 n) (mode_value l n)) ≡ Value m next
+        → then (bit_field l at 1) (λ (p n : ℕ). cond (eqb p 0) (Ok (0, n)) (mode_value l n)) ≡ Ok (m, next)
     go true e s =
         let z : m ≡ 0 = eqb-true m 0 e in
         rw ((bit_field_is 1).written_read l at 0 next refl s, z)
@@ -160,21 +153,21 @@ record ValueIs (l : List ℕ) (at m next : ℕ) : Type 0 where
   fits : whole_fits 0 mode_last m ≡ true
   stands : Stands l at (whole_bits 0 mode_last m) next
 
-value_read : (l : List ℕ) (at m next : ℕ) → Bits l → mode_value l at ≡ Value m next → ValueIs l at m next
+value_read : (l : List ℕ) (at m next : ℕ) → Bits l → mode_value l at ≡ Ok (m, next) → ValueIs l at m next
 unfolding mode_value
-value_read l at m next b e = fields.via (ValueIs l at m next) (whole_number l at 0 mode_last) _ m next found e
+value_read l at m next b e = via (ValueIs l at m next) (whole_number l at 0 mode_last) _ (m, next) found e
   where
-    go : (v n : ℕ) → whole_number l at 0 mode_last ≡ Value v n → (t : Bool) → eqb v 0 ≡ t
-        → cond t (refused_at at Default) (Value v n) ≡ Value m next → ValueIs l at m next
+    go : (v n : ℕ) → whole_number l at 0 mode_last ≡ Ok (v, n) → (t : Bool) → eqb v 0 ≡ t
+        → cond {A = Reading ℕ} t (refused_at at Default) (Ok (v, n)) ≡ Ok (m, next) → ValueIs l at m next
     go v n f true p k = never (cc)
     go v n f false p k =
-        let x : v ≡ m = cc in
-        let y : n ≡ next = cc in
-        let g : whole_number l at 0 mode_last ≡ Value m next = rw (← x, ← y) f in
+        let x : v ≡ m = ok_value k in
+        let y : n ≡ next = ok_place k in
+        let g : whole_number l at 0 mode_last ≡ Ok (m, next) = rw (← x, ← y) f in
         record { other = rw (← x) p; fits = (whole_number_is 0 mode_last (omega arith)).read_fits l at m next b g; stands = (whole_number_is 0 mode_last (omega arith)).read_written l at m next b g }
 
-    found : (v n : ℕ) → whole_number l at 0 mode_last ≡ Value v n
-        → cond (eqb v 0) (refused_at at Default) (Value v n) ≡ Value m next → ValueIs l at m next
+    found : (v n : ℕ) → whole_number l at 0 mode_last ≡ Ok (v, n)
+        → cond {A = Reading ℕ} (eqb v 0) (refused_at at Default) (Ok (v, n)) ≡ Ok (m, next) → ValueIs l at m next
     found v n f k = go v n f (eqb v 0) refl k
 
 present : (l : List ℕ) (at p m next : ℕ) → Stands l at (bits_n 1 1) p → ValueIs l p m next → ModeIs l at m next
@@ -185,20 +178,20 @@ default : (l : List ℕ) (at next : ℕ) → Stands l at (bits_n 1 0) next → M
 unfolding mode_bits
 default l at next s = record { fits = refl; stands = s }
 
-mode_read : (l : List ℕ) (at m next : ℕ) → Bits l → mode_at l at ≡ Value m next → ModeIs l at m next
+mode_read : (l : List ℕ) (at m next : ℕ) → Bits l → mode_at l at ≡ Ok (m, next) → ModeIs l at m next
 unfolding mode_at
-mode_read l at m next b e = fields.via (ModeIs l at m next) (bit_field l at 1) _ m next found e
+mode_read l at m next b e = via (ModeIs l at m next) (bit_field l at 1) _ (m, next) found e
   where
     one_bit : (p : ℕ) → p < 2 → eqb p 0 ≡ false → p ≡ 1
     one_bit p h e =
         let n = eqb-false p 0 e in
         omega arith
 
-    go : (p n : ℕ) → bit_field l at 1 ≡ Value p n → (t : Bool) → eqb p 0 ≡ t
-        → cond t (Value 0 n) (mode_value l n) ≡ Value m next → ModeIs l at m next
+    go : (p n : ℕ) → bit_field l at 1 ≡ Ok (p, n) → (t : Bool) → eqb p 0 ≡ t
+        → cond t (Ok (0, n)) (mode_value l n) ≡ Ok (m, next) → ModeIs l at m next
     go p n f true q k =
-        let x : 0 ≡ m = cc in
-        let y : n ≡ next = cc in
+        let x : 0 ≡ m = ok_value k in
+        let y : n ≡ next = ok_place k in
         let z : p ≡ 0 = eqb-true p 0 q in
         rw (← x) (default l at next (stands_at l at n next (bits_n 1 0) y (rw z at ((bit_field_is 1).read_written l at p n b f))))
     go p n f false q k =
@@ -206,7 +199,7 @@ mode_read l at m next b e = fields.via (ModeIs l at m next) (bit_field l at 1) _
         let z : p ≡ 1 = one_bit p (omega arith) q in
         present l at n m next (rw z at ((bit_field_is 1).read_written l at p n b f)) (value_read l n m next b k)
 
-    found : (p n : ℕ) → bit_field l at 1 ≡ Value p n → cond (eqb p 0) (Value 0 n) (mode_value l n) ≡ Value m next → ModeIs l at m next
+    found : (p n : ℕ) → bit_field l at 1 ≡ Ok (p, n) → cond (eqb p 0) (Ok (0, n)) (mode_value l n) ≡ Ok (m, next) → ModeIs l at m next
     found p n f k = go p n f (eqb p 0) refl k
 
 mode_are_bits : (m : ℕ) → Bits (mode_bits m)
@@ -238,37 +231,34 @@ module _ (b : Body) (laws : BodyLaws b) where
   record ModedIs (l : List ℕ) (at next : ℕ) (x : Found) : Type 0 where
     place : ℕ
     mode : ModeIs l at (number_of x.pdu) place
-    body : b.read l place ≡ taken.Is x.content next
+    body : b.read l place ≡ Ok (x.content, next)
 
-  moded_made : (l : List ℕ) (at next m p : ℕ) (x : Found) → Bits l → mode_at l at ≡ Value m p
+  moded_made : (l : List ℕ) (at next m p : ℕ) (x : Found) → Bits l → mode_at l at ≡ Ok (m, p)
       → Held (pdu.Start (eqb m 1)) (b.read l p) next x → ModedIs l at next x
   moded_made l at next m p x bl f i =
       let k = mode_read l at m p bl f in
       let n : number_of x.pdu ≡ m = ap number_of i.pdu ∙ mode_number m k.fits in
       record { place = p; mode = rw n k; body = i.content }
 
-  moded_is : (l : List ℕ) (at next : ℕ) (x : Found) → Bits l → (moded b).read l at ≡ reached.Is x next → ModedIs l at next x
+  moded_is : (l : List ℕ) (at next : ℕ) (x : Found) → Bits l → (moded b).read l at ≡ Ok (x, next) → ModedIs l at next x
   moded_is l at next x bl e =
-      via (ModedIs l at next x) reached.Refused (reached.Is x next) apart (mode_at l at) _ (λ (m p : ℕ) (f : mode_at l at ≡ Value m p) (k : reach (pdu.Start (eqb m 1)) (b.read l p) ≡ reached.Is x next).
+      via (ModedIs l at next x) (mode_at l at) _ (x, next) (λ (m p : ℕ) (f : mode_at l at ≡ Ok (m, p)) (k : reach (pdu.Start (eqb m 1)) (b.read l p) ≡ Ok (x, next)).
       moded_made l at next m p x bl f (held (pdu.Start (eqb m 1)) (b.read l p) next x k)) e
-    where
-      apart : (r : Refusal) → reached.Refused r ≡ reached.Is x next → ModedIs l at next x
-      apart r k = never (cc)
 
-  moded_stands : (l : List ℕ) (at next : ℕ) (x : Found) → Bits l → (moded b).read l at ≡ reached.Is x next
+  moded_stands : (l : List ℕ) (at next : ℕ) (x : Found) → Bits l → (moded b).read l at ≡ Ok (x, next)
       → whole_fits 0 mode_last (number_of x.pdu) && b.stands (one l) x.content ≡ true
   moded_stands l at next x bl e =
       let i = moded_is l at next x bl e in
       rw i.mode.fits (laws.read_stands l i.place next x.content bl i.body)
 
-  moded_plain : (l : List ℕ) (at next : ℕ) (x : Found) → Bits l → (moded b).read l at ≡ reached.Is x next
+  moded_plain : (l : List ℕ) (at next : ℕ) (x : Found) → Bits l → (moded b).read l at ≡ Ok (x, next)
       → (moded b).plain l at x ≡ (moded b).bits ((moded b).value (one l) x)
   moded_plain l at next x bl e =
       let i = moded_is l at next x bl e in
       let q = laws.read_plain l i.place next x.content bl i.body in
       rw (i.mode.stands.holds, ← i.mode.stands.place, q)
 
-  moded_unextended : (l : List ℕ) (at next : ℕ) (x : Found) → Bits l → (moded b).read l at ≡ reached.Is x next
+  moded_unextended : (l : List ℕ) (at next : ℕ) (x : Found) → Bits l → (moded b).read l at ≡ Ok (x, next)
       → (moded b).extended l at x ≡ false → Stands l at ((moded b).bits ((moded b).value (one l) x)) next
   moded_unextended l at next x bl e n =
       let i = moded_is l at next x bl e in
@@ -310,13 +300,10 @@ module _ (b : Body) (laws : BodyLaws b) where
             (b.bits (b.value (one l) x.content)) s).second;
       }
 
-start_named : (b : Body) (l : List ℕ) (at next : ℕ) (x : Found) → (moded b).read l at ≡ reached.Is x next → index_of x.pdu ≡ 2
+start_named : (b : Body) (l : List ℕ) (at next : ℕ) (x : Found) → (moded b).read l at ≡ Ok (x, next) → index_of x.pdu ≡ 2
 start_named b l at next x e =
-    via (index_of x.pdu ≡ 2) reached.Refused (reached.Is x next) apart (mode_at l at) _ (λ (m p : ℕ) (f : mode_at l at ≡ Value m p) (k : reach (pdu.Start (eqb m 1)) (b.read l p) ≡ reached.Is x next).
+    via (index_of x.pdu ≡ 2) (mode_at l at) _ (x, next) (λ (m p : ℕ) (f : mode_at l at ≡ Ok (m, p)) (k : reach (pdu.Start (eqb m 1)) (b.read l p) ≡ Ok (x, next)).
     ap index_of (held (pdu.Start (eqb m 1)) (b.read l p) next x k).pdu) e
-  where
-    apart : (r : Refusal) → reached.Refused r ≡ reached.Is x next → index_of x.pdu ≡ 2
-    apart r k = never (cc)
 
 -- ---- the two types of an edition
 
@@ -345,7 +332,7 @@ unfolding digits_in
 response_width = omega arith
 
 named_number : (last : ℕ) (p : ℕ → Pdu) (i : ℕ) → ((v : ℕ) → index_of (p v) ≡ i) → (l : List ℕ) (at next : ℕ) (x : Found)
-    → (enumerated last p).read l at ≡ reached.Is x next → index_of x.pdu ≡ i
+    → (enumerated last p).read l at ≡ Ok (x, next) → index_of x.pdu ≡ i
 named_number last p i h l at next x e =
     let k = number_is last p l at next x e in
     ap index_of k.pdu ∙ h k.number
@@ -365,7 +352,7 @@ module _ (e : Edition) (laws : EditionLaws e) where
   aircraft_body_is (suc (suc (suc n))) h = holding_laws pdu.Send e.send laws.send
 
   aircraft_named : (i : ℕ) → i ≤ 3 → (l : List ℕ) (at next : ℕ) (x : Found)
-      → (aircraft_body e i).read l at ≡ reached.Is x next → index_of x.pdu ≡ i
+      → (aircraft_body e i).read l at ≡ Ok (x, next) → index_of x.pdu ≡ i
   aircraft_named zero h l at next x k = named_number e.user_last pdu.AbortUser 0 (λ (v : ℕ). refl) l at next x k
   aircraft_named (suc zero) h l at next x k = named_number e.provider_last pdu.AbortProvider 1 (λ (v : ℕ). refl) l at next x k
   aircraft_named (suc (suc zero)) h l at next x k = start_named e.start l at next x k
@@ -386,7 +373,7 @@ module _ (e : Edition) (laws : EditionLaws e) where
       (λ (v : ℕ). refl) (reason_most response_last response_width)
 
   ground_named : (i : ℕ) → i ≤ 5 → (l : List ℕ) (at next : ℕ) (x : Found)
-      → (ground_body e i).read l at ≡ reached.Is x next → index_of x.pdu ≡ i
+      → (ground_body e i).read l at ≡ Ok (x, next) → index_of x.pdu ≡ i
   ground_named zero h l at next x k = named_number e.user_last pdu.AbortUser 0 (λ (v : ℕ). refl) l at next x k
   ground_named (suc zero) h l at next x k = named_number e.provider_last pdu.AbortProvider 1 (λ (v : ℕ). refl) l at next x k
   ground_named (suc (suc zero)) h l at next x k = ap index_of (held (pdu.Start false) (e.start.read l at) next x k).pdu

@@ -10,22 +10,17 @@ use lib.Dec.{leb}
 use lib.ListN.{length}
 use Rattle.words.proofs.Laws.{both_left, both_right}
 use Rattle.bits.proofs.Numbers.{Bits}
-use Rattle.fields.specs.Fields.{extensible_index, onto}
+use Rattle.fields.specs.Fields.{extensible_index}
 use Rattle.fields.specs.Encodings.{index_bits, whole_fits}
 use Rattle.fields.specs.declared.Refusal.{Refusal}
-use Rattle.fields.specs.declared.Field.TheVariants.{Value, Refused}
 use Rattle.fields.proofs.RoundTrip.{Stands, stands_split, extensible_index_is}
 use Rattle.front.specs.declared.Found.{Found}
-use Rattle.front.specs.declared.Reached.{Reached}
-use Rattle.front.specs.declared.Reached.TheVariants as reached
-use Rattle.front.specs.declared.Decoded.{Decoded}
-use Rattle.front.specs.declared.Decoded.TheVariants as decoded
 use Rattle.front.specs.Padding.{tail_at}
 use Rattle.front.specs.Body.{Lent, one, Alternative, Choice}
-use Rattle.front.specs.Apdus.{Apdu, apdu, apdu_fits, apdu_bits, on_reached, ended_at, apdu_at, index_of, body_of, found_fits, apdu_in}
+use Rattle.front.specs.Apdus.{Apdu, apdu, apdu_fits, apdu_bits, ended_at, apdu_at, index_of, body_of, found_fits, apdu_in}
 use Rattle.apdu.proofs.Bounds.{never}
-use Rattle.apdu.proofs.Contents.{via}
-use Rattle.front.proofs.Laws.{Back, Laws, ChoiceLaws}
+use Rattle.front.proofs.Laws.{via, Back, Laws, ChoiceLaws}
+use Rattle.std.specs.Prelude.{Err, Ok, Result}
 
 -- ---- an APDU, written and read
 
@@ -37,14 +32,14 @@ pub record FieldsRead (c : Choice) (l : List ℕ) (at m : ℕ) (v : Apdu c) : Ty
 
 pub record ApduRead (c : Choice) (l : List ℕ) (at : ℕ) (v : Apdu c) : Type 0 where
   pub found : Found
-  pub read : apdu_at c l at ≡ decoded.Is found
+  pub read : apdu_at c l at ≡ Ok found
   pub same : apdu_in c (one l) found ≡ v
 
-ended_well : (l : List ℕ) (x : Found) (at v next : ℕ) → tail_at l at ≡ Value v next → ended_at l x at ≡ decoded.Is x
+ended_well : (l : List ℕ) (x : Found) (at v next : ℕ) → tail_at l at ≡ Ok (v, next) → ended_at l x at ≡ Ok x
 unfolding ended_at
 ended_well l x at v next t = rw t
 
-ended_badly : (l : List ℕ) (x : Found) (at : ℕ) (r : Refusal) → tail_at l at ≡ Refused r → ended_at l x at ≡ decoded.Refused r
+ended_badly : (l : List ℕ) (x : Found) (at : ℕ) (r : Refusal) → tail_at l at ≡ Err r → ended_at l x at ≡ Err r
 unfolding ended_at
 ended_badly l x at r t = rw t
 
@@ -72,14 +67,14 @@ module _ (c : Choice) (laws : ChoiceLaws c) where
       record { found = b.found; read = rw (a, b.read); same = in-alternative l v.index b.found v.held n b.same }
 
   pub apdu_written : (l : List ℕ) (at m next : ℕ) (v : Apdu c) → Bits l → apdu_fits c v ≡ true
-      → Stands l at (apdu_bits c v) m → tail_at l m ≡ Value 0 next → ApduRead c l at v
+      → Stands l at (apdu_bits c v) m → tail_at l m ≡ Ok (0, next) → ApduRead c l at v
   apdu_written l at m next v bl h s t =
       let f = fields_written l at m v bl h s in
       record { found = f.found; read = f.read ∙ ended_well l f.found m 0 next t; same = f.same }
 
   -- all fields stand, and the tail is not right
   pub tail_refused : (l : List ℕ) (at m : ℕ) (v : Apdu c) (r : Refusal) → Bits l → apdu_fits c v ≡ true
-      → Stands l at (apdu_bits c v) m → tail_at l m ≡ Refused r → apdu_at c l at ≡ decoded.Refused r
+      → Stands l at (apdu_bits c v) m → tail_at l m ≡ Err r → apdu_at c l at ≡ Err r
   tail_refused l at m v r bl h s t =
       let f = fields_written l at m v bl h s in
       f.read ∙ ended_badly l f.found m r t
@@ -93,20 +88,12 @@ pub record ApduIs (c : Choice) (l : List ℕ) (at : ℕ) (x : Found) : Type 0 wh
   pub end : ℕ
   pub index : whole_fits 0 c.last (index_of x.pdu) ≡ true
   pub front : Stands l at (index_bits c.last (index_of x.pdu)) place
-  pub body : (body_of c x).read l place ≡ reached.Is x next
-  pub tail : tail_at l next ≡ Value left end
-
-refused_not : (R : Type 0) (x : Found) (r : Refusal) → decoded.Refused r ≡ decoded.Is x → R
-refused_not R x r e = never (cc)
-
-via_reached : (R : Type 0) (x : Found) (t : Reached) (k : Found → ℕ → Decoded)
-    → ((y : Found) (n : ℕ) → t ≡ reached.Is y n → k y n ≡ decoded.Is x → R) → on_reached t k ≡ decoded.Is x → R
-via_reached R x (reached.Is y n) k g e = g y n refl e
-via_reached R x (reached.Refused r) k g e = refused_not R x r e
+  pub body : (body_of c x).read l place ≡ Ok (x, next)
+  pub tail : tail_at l next ≡ Ok (left, end)
 
 module _ (c : Choice) (laws : ChoiceLaws c) (l : List ℕ) (at : ℕ) (x : Found) (b : Bits l) where
-  made : (i p n v m : ℕ) → index_of x.pdu ≡ i → extensible_index l at c.last ≡ Value i p
-      → (c.body i).read l p ≡ reached.Is x n → tail_at l n ≡ Value v m → ApduIs c l at x
+  made : (i p n v m : ℕ) → index_of x.pdu ≡ i → extensible_index l at c.last ≡ Ok (i, p)
+      → (c.body i).read l p ≡ Ok (x, n) → tail_at l n ≡ Ok (v, m) → ApduIs c l at x
   made i p n v m e f g t =
       record {
         place = p;
@@ -115,18 +102,18 @@ module _ (c : Choice) (laws : ChoiceLaws c) (l : List ℕ) (at : ℕ) (x : Found
         end = m;
         index = rw e ((extensible_index_is c.last laws.small).read_fits l at i p b f);
         front = rw e ((extensible_index_is c.last laws.small).read_written l at i p b f);
-        body = subst (λ (j : ℕ). (c.body j).read l p ≡ reached.Is x n) (sym e) g;
+        body = subst (λ (j : ℕ). (c.body j).read l p ≡ Ok (x, n)) (sym e) g;
         tail = t;
       }
 
-  pub apdu_read : apdu_at c l at ≡ decoded.Is x → ApduIs c l at x
+  pub apdu_read : apdu_at c l at ≡ Ok x → ApduIs c l at x
   unfolding apdu_at ended_at
   apdu_read e =
-      via (ApduIs c l at x) decoded.Refused (decoded.Is x) (refused_not (ApduIs c l at x) x) (extensible_index l at c.last) _
-      (λ (i p : ℕ) (f : extensible_index l at c.last ≡ Value i p).
-      via_reached (ApduIs c l at x) x ((c.body i).read l p) _ (λ (y : Found) (n : ℕ) (g : (c.body i).read l p ≡ reached.Is y n).
-      via (ApduIs c l at x) decoded.Refused (decoded.Is x) (refused_not (ApduIs c l at x) x) (tail_at l n) _ (λ (v m : ℕ) (t : tail_at l n ≡ Value v m) (k : decoded.Is y ≡ decoded.Is x).
+      via (ApduIs c l at x) (extensible_index l at c.last) _ x
+      (λ (i p : ℕ) (f : extensible_index l at c.last ≡ Ok (i, p)).
+      via (ApduIs c l at x) ((c.body i).read l p) _ x (λ (y : Found) (n : ℕ) (g : (c.body i).read l p ≡ Ok (y, n)).
+      via (ApduIs c l at x) (tail_at l n) _ x (λ (v m : ℕ) (t : tail_at l n ≡ Ok (v, m)) (k : Ok y ≡ Ok x).
       let z : y ≡ x = cc in
-      let g' : (c.body i).read l p ≡ reached.Is x n = g ∙ ap (λ (w : Found). reached.Is w n) z in
+      let g' : (c.body i).read l p ≡ Ok (x, n) = g ∙ ap (λ (w : Found). Ok (w, n)) z in
       let h = index_most c laws i ((extensible_index_is c.last laws.small).read_fits l at i p b f) in
       made i p n v m (laws.named i h l p n x g') f g' t))) e

@@ -8,23 +8,20 @@ use native.Mathlib.Omega.{arith}
 use borrow.Author.Tests.{le-leb, lt-ltb, ltb-true, eq-eqb, ne_eqb, eqb-true, eqb-false}
 use lib.Dec.{leb, ltb, eqb}
 use lib.ListN.{length, take, drop, get_or, length-append}
-use Rattle.words.proofs.Laws.{both_left, both_right}
+use Rattle.words.proofs.Laws.{both_left, both_right, ok_value, ok_place}
 use Rattle.bits.specs.Bits.{bits_n}
 use Rattle.bits.proofs.Numbers.{Bits, bits_bits_n, length_bits_n}
 use Rattle.bits.proofs.Bytes.{bits_append, bits_take, bits_drop, length_part}
 use Rattle.fields.specs.Fields.{bit_field}
 use Rattle.fields.specs.declared.Refusal.{Refusal}
-use Rattle.fields.specs.declared.Field.{Field}
-use Rattle.fields.specs.declared.Field.TheVariants.{Value, Refused}
 use Rattle.fields.proofs.RoundTrip.{Stands, stands_join, stands_split, bit_field_is}
 use Rattle.pdus.specs.declared.Content.{Content}
-use Rattle.front.specs.declared.Taken.{Taken as Answer}
-use Rattle.front.specs.declared.Taken.TheVariants as taken
 use Rattle.front.specs.Body.{Lent, one, Body}
 use Rattle.front.specs.Runs.{none, no_content, is_bits, ends_at, takes_all, run_in, run_from, run_body, Perhaps, nothing, something, is_none, perhaps_fits, perhaps_bits, perhaps_run}
 use Rattle.apdu.proofs.Bounds.{never}
-use Rattle.apdu.proofs.Contents.{via}
-use Rattle.front.proofs.Laws.{AreBits, Taken, body_most, run_most, BodyLaws}
+use Rattle.front.proofs.Laws.{via, AreBits, Taken, body_most, run_most, BodyLaws}
+use Rattle.std.specs.Prelude.{Err, Ok}
+use Rattle.fields.specs.Fields.{Reading}
 
 -- ---- lists of bits
 
@@ -41,42 +38,39 @@ bits_is (x ∷ l) b = rw (lt-ltb x 2 (b zero)) (bits_is l (λ (k : ℕ). b (suc 
 
 -- ---- what a reader has to show
 
-pub record Ends (f : Field) (n : ℕ) : Type 0 where
+pub record Ends (f : Reading ℕ) (n : ℕ) : Type 0 where
   pub value : ℕ
-  pub is : f ≡ Value value n
+  pub is : f ≡ Ok (value, n)
 
-pub ends_at_is : (f : Field) (n : ℕ) → ends_at n f ≡ true → Ends f n
-ends_at_is (Value v next) n h = record { value = v; is = ap (Value v) (eqb-true next n h) }
-ends_at_is (Refused r) n h = never (cc)
+pub ends_at_is : (f : Reading ℕ) (n : ℕ) → ends_at n f ≡ true → Ends f n
+ends_at_is (Ok (v, next)) n h = record { value = v; is = ap (λ (place : ℕ). Ok (v, place)) (eqb-true next n h) }
+ends_at_is (Err r) n h = never (cc)
 
-pub at_end : (f : Field) (n : ℕ) → Ends f n → ends_at n f ≡ true
+pub at_end : (f : Reading ℕ) (n : ℕ) → Ends f n → ends_at n f ≡ true
 at_end f n i = rw i.is (eq-eqb n n refl)
 
 -- a reading, by itself
-pub record Apart (rd : List ℕ → ℕ → Field) (l : List ℕ) (at next : ℕ) : Type 0 where
+pub record Apart (rd : List ℕ → ℕ → Reading ℕ) (l : List ℕ) (at next : ℕ) : Type 0 where
   pub from : at ≤ next
   pub within : next ≤ length l
   pub itself : Ends (rd (take (next - at) (drop at l)) 0) (next - at)
 
-pub record RunLaws (rd : List ℕ → ℕ → Field) : Type 0 where
+pub record RunLaws (rd : List ℕ → ℕ → Reading ℕ) : Type 0 where
   pub most : (v : List ℕ) → Bits v → Ends (rd v 0) (length v) → length v ≤ run_most
-  pub apart : (l : List ℕ) (at v next : ℕ) → Bits l → rd l at ≡ Value v next → Apart rd l at next
+  pub apart : (l : List ℕ) (at v next : ℕ) → Bits l → rd l at ≡ Ok (v, next) → Apart rd l at next
   pub anywhere : (v l : List ℕ) (at next : ℕ) → Bits v → Ends (rd v 0) (length v) → Stands l at v next → Ends (rd l at) next
 
-module _ (rd : List ℕ → ℕ → Field) (laws : RunLaws rd) where
+module _ (rd : List ℕ → ℕ → Reading ℕ) (laws : RunLaws rd) where
   record RunIs (l : List ℕ) (at next : ℕ) (c : Content) : Type 0 where
     apart : Apart rd l at next
     same : c ≡ run_from at next
 
-  run_is : (l : List ℕ) (at next : ℕ) (c : Content) → Bits l → (run_body rd).read l at ≡ taken.Is c next → RunIs l at next c
+  run_is : (l : List ℕ) (at next : ℕ) (c : Content) → Bits l → (run_body rd).read l at ≡ Ok (c, next) → RunIs l at next c
   run_is l at next c b e =
-      via (RunIs l at next c) taken.Refused (taken.Is c next) no (rd l at) _ (λ (v n : ℕ) (f : rd l at ≡ Value v n) (k : taken.Is (run_from at n) n ≡ taken.Is c next).
-      let z : n ≡ next = cc in
-      let y : run_from at n ≡ c = cc in
-      record { apart = laws.apart l at v next b (f ∙ ap (Value v) z); same = sym y ∙ ap (run_from at) z }) e
-    where
-      no : (r : Refusal) → taken.Refused r ≡ taken.Is c next → RunIs l at next c
-      no r k = never (cc)
+      via (RunIs l at next c) (rd l at) _ (c, next) (λ (v n : ℕ) (f : rd l at ≡ Ok (v, n)) (k : ◌≡◌ {A = Reading Content} (Ok (run_from at n, n)) (Ok (c, next))).
+      let z : n ≡ next = ok_place k in
+      let y : run_from at n ≡ c = ok_value k in
+      record { apart = laws.apart l at v next b (f ∙ ap (λ (place : ℕ). Ok (v, place)) z); same = sym y ∙ ap (run_from at) z }) e
 
   run_length : (l : List ℕ) (at next : ℕ) → at ≤ next → next ≤ length l → length (take (next - at) (drop at l)) ≡ next - at
   run_length l at next h g = length_part l at (next - at) (omega arith)
@@ -118,14 +112,14 @@ module _ (rd : List ℕ → ℕ → Field) (laws : RunLaws rd) where
             (bits_drop c.message.at s.messages k.messages)))
             (both_right (leb (c.message.at + c.message.count) (length s.messages)) (takes_all rd (run_in s c)) h);
         written_read = run_back;
-        read_stands = λ (l : List ℕ) (at next : ℕ) (c : Content) (b : Bits l) (e : (run_body rd).read l at ≡ taken.Is c next).
+        read_stands = λ (l : List ℕ) (at next : ℕ) (c : Content) (b : Bits l) (e : (run_body rd).read l at ≡ Ok (c, next)).
             let i = run_is l at next c b e in
             rw i.same (run_read_stands l at next i.apart);
-        read_plain = λ (l : List ℕ) (at next : ℕ) (c : Content) (b : Bits l) (e : (run_body rd).read l at ≡ taken.Is c next).
+        read_plain = λ (l : List ℕ) (at next : ℕ) (c : Content) (b : Bits l) (e : (run_body rd).read l at ≡ Ok (c, next)).
             let i = run_is l at next c b e in
             rw i.same;
         unextended = λ (l : List ℕ) (at next : ℕ) (c : Content) (b : Bits l)
-            (e : (run_body rd).read l at ≡ taken.Is c next) (n : false ≡ false).
+            (e : (run_body rd).read l at ≡ Ok (c, next)) (n : false ≡ false).
             let i = run_is l at next c b e in
             rw i.same (run_stands l at next i.apart.from i.apart.within);
         clear = λ (l : List ℕ) (at next : ℕ) (c : Content) (s : Stands l at (run_in (one l) c) next). refl;
@@ -133,7 +127,7 @@ module _ (rd : List ℕ → ℕ → Field) (laws : RunLaws rd) where
 
 -- ---- nothing, or a run
 
-module _ (rd : List ℕ → ℕ → Field) (laws : RunLaws rd) where
+module _ (rd : List ℕ → ℕ → Reading ℕ) (laws : RunLaws rd) where
   record PerhapsIs (l : List ℕ) (at next : ℕ) (c : Content) : Type 0 where
     value : Perhaps
     same : cond (is_none c) nothing (something (run_in (one l) c)) ≡ value
@@ -167,23 +161,20 @@ module _ (rd : List ℕ → ℕ → Field) (laws : RunLaws rd) where
         size = rw (k, length-append, length_bits_n, n);
       }
 
-  perhaps_is : (l : List ℕ) (at next : ℕ) (c : Content) → Bits l → (perhaps_run rd).read l at ≡ taken.Is c next → PerhapsIs l at next c
+  perhaps_is : (l : List ℕ) (at next : ℕ) (c : Content) → Bits l → (perhaps_run rd).read l at ≡ Ok (c, next) → PerhapsIs l at next c
   perhaps_is l at next c b e =
-      via (PerhapsIs l at next c) taken.Refused (taken.Is c next) no (bit_field l at 1) _ (λ (i p : ℕ) (f : bit_field l at 1 ≡ Value i p) (k : cond (eqb i 0) (taken.Is no_content p) ((run_body rd).read l p) ≡ taken.Is c next).
+      via (PerhapsIs l at next c) (bit_field l at 1) _ (c, next) (λ (i p : ℕ) (f : bit_field l at 1 ≡ Ok (i, p)) (k : cond (eqb i 0) (Ok (no_content, p)) ((run_body rd).read l p) ≡ Ok (c, next)).
       go i p f (eqb i 0) refl k) e
     where
-      no : (r : Refusal) → taken.Refused r ≡ taken.Is c next → PerhapsIs l at next c
-      no r k = never (cc)
-
       one_bit : (i : ℕ) → i < 2 → eqb i 0 ≡ false → i ≡ 1
       one_bit i h e = let n = eqb-false i 0 e in omega arith
 
-      go : (i p : ℕ) → bit_field l at 1 ≡ Value i p → (t : Bool) → eqb i 0 ≡ t
-          → cond t (taken.Is no_content p) ((run_body rd).read l p) ≡ taken.Is c next → PerhapsIs l at next c
+      go : (i p : ℕ) → bit_field l at 1 ≡ Ok (i, p) → (t : Bool) → eqb i 0 ≡ t
+          → cond t (Ok (no_content, p)) ((run_body rd).read l p) ≡ Ok (c, next) → PerhapsIs l at next c
       go i p f true q k =
           let z : i ≡ 0 = eqb-true i 0 q in
-          let y : p ≡ next = cc in
-          let w : no_content ≡ c = cc in
+          let y : p ≡ next = ok_place k in
+          let w : no_content ≡ c = ok_value k in
           rw (← w, ← y) (perhaps_nothing l at p (rw z at ((bit_field_is 1).read_written l at i p b f)))
       go i p f false q k =
           let lt : i < 2 ^ 1 = ltb-true i (2 ^ 1) (both_right (leb 1 64) (ltb i (2 ^ 1)) ((bit_field_is 1).read_fits l at i p b f)) in
@@ -239,12 +230,12 @@ module _ (rd : List ℕ → ℕ → Field) (laws : RunLaws rd) where
         value_fits = λ (s : Lent) (c : Content) (k : AreBits s). perhaps_value_fits s c k (is_none c);
         written_read = perhaps_back;
         read_stands = λ (l : List ℕ) (at next : ℕ) (c : Content) (b : Bits l)
-            (e : (perhaps_run rd).read l at ≡ taken.Is c next). (perhaps_is l at next c b e).right;
-        read_plain = λ (l : List ℕ) (at next : ℕ) (c : Content) (b : Bits l) (e : (perhaps_run rd).read l at ≡ taken.Is c next).
+            (e : (perhaps_run rd).read l at ≡ Ok (c, next)). (perhaps_is l at next c b e).right;
+        read_plain = λ (l : List ℕ) (at next : ℕ) (c : Content) (b : Bits l) (e : (perhaps_run rd).read l at ≡ Ok (c, next)).
             let i = perhaps_is l at next c b e in
             rw (i.size, i.same) i.stands.holds;
         unextended = λ (l : List ℕ) (at next : ℕ) (c : Content) (b : Bits l)
-            (e : (perhaps_run rd).read l at ≡ taken.Is c next) (n : false ≡ false).
+            (e : (perhaps_run rd).read l at ≡ Ok (c, next)) (n : false ≡ false).
             let i = perhaps_is l at next c b e in
             rw i.same i.stands;
         clear = λ (l : List ℕ) (at next : ℕ) (c : Content)

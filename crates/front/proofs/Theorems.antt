@@ -15,25 +15,23 @@ use Rattle.bits.specs.Put.{put_bits}
 use Rattle.bits.proofs.Numbers.{Bits}
 use Rattle.bits.proofs.Bytes.{Bytes, bits_append, bits_to_is, length_bits_is, length_to}
 use Rattle.fields.specs.Encodings.{index_bits, whole_fits}
-use Rattle.fields.specs.Fields.{onto}
-use Rattle.fields.specs.declared.Field.{Field}
-use Rattle.fields.specs.declared.Field.TheVariants.{Value, Refused}
+use Rattle.fields.specs.Fields.{then}
 use Rattle.fields.proofs.RoundTrip.{Stands, stands_join, stands_split, extensible_index_is}
 use Rattle.pdus.specs.declared.Content.{Content}
 use Rattle.front.specs.declared.Found.{Found}
-use Rattle.front.specs.declared.Taken.{Taken}
-use Rattle.front.specs.declared.Taken.TheVariants as taken
-use Rattle.front.specs.declared.Decoded.TheVariants as decoded
-use Rattle.apdu.specs.declared.Written.TheVariants as written
 use Rattle.front.specs.Padding.{all_bits, lent, buffer_least, padding, padded, bytes_for, tail_at}
 use Rattle.front.specs.Body.{Lent, one, Body, Alternative, Choice}
-use Rattle.front.specs.Apdus.{Apdu, apdu, apdu_fits, apdu_bits, apdu_at, index_of, body_of, found_fits, apdu_in, front_end, extended, strip, on_taken, whole_at}
+use Rattle.front.specs.Apdus.{Apdu, apdu, apdu_fits, apdu_bits, apdu_at, index_of, body_of, found_fits, apdu_in, front_end, extended, strip, whole_at}
 use Rattle.front.specs.Writing.{done, write_out}
 use Rattle.apdu.proofs.Octets.{all_bits_is, put_bytes}
 use Rattle.apdu.proofs.Bounds.{never}
 use Rattle.apdu.proofs.Theorems.{pad_bits, length_padded, stands_front, tail_padded, front, ended_whole}
-use Rattle.front.proofs.Laws.{AreBits, one_bits, BodyLaws, Laws, ChoiceLaws}
+use Rattle.front.proofs.Laws.{via, AreBits, one_bits, BodyLaws, Laws, ChoiceLaws}
 use Rattle.front.proofs.Apdus.{index_most, ApduRead, ApduIs, apdu_written, apdu_read}
+use Rattle.std.specs.Prelude.{Err, Ok}
+use Rattle.fields.specs.Fields.{Reading}
+use Rattle.words.specs.declared.Unwritten.TheVariants.{Room}
+use Rattle.words.specs.declared.Unwritten.TheVariants.{Shape}
 
 module _ (c : Choice) (laws : ChoiceLaws c) where
   -- ---- sizes, and bits
@@ -93,7 +91,7 @@ module _ (c : Choice) (laws : ChoiceLaws c) where
   one_value v w bv bw f g e =
       let x = encoding_accepted (padded (apdu_bits c v)) v bv f refl in
       let y = encoding_accepted (padded (apdu_bits c v)) w bw g e in
-      let q : decoded.Is x.found ≡ decoded.Is y.found = sym x.read ∙ y.read in
+      let q : Ok x.found ≡ Ok y.found = sym x.read ∙ y.read in
       let z : x.found ≡ y.found = cc in
       sym x.same ∙ ap (apdu_in c (one (padded (apdu_bits c v)))) z ∙ y.same
 
@@ -105,7 +103,7 @@ module _ (c : Choice) (laws : ChoiceLaws c) where
     pub fits : apdu_fits c (apdu_in c (one l) x) ≡ true
     pub bits : strip c l x ≡ padded (apdu_bits c (apdu_in c (one l) x))
 
-  module _ (l : List ℕ) (x : Found) (b : Bits l) (e : apdu_at c l 0 ≡ decoded.Is x) where
+  module _ (l : List ℕ) (x : Found) (b : Bits l) (e : apdu_at c l 0 ≡ Ok x) where
     pub is : ApduIs c l 0 x
     is = apdu_read c laws l 0 x b e
 
@@ -181,7 +179,7 @@ module _ (c : Choice) (laws : ChoiceLaws c) where
           (length ((body_of c x).bits ((body_of c x).value (one l) x))) (drop (front_end c x) l)
       delivered_run = sym plain_body.holds
 
-  module _ (s : List ℕ) (x : Found) (e : apdu_at c (lent s) 0 ≡ decoded.Is x) where
+  module _ (s : List ℕ) (x : Found) (e : apdu_at c (lent s) 0 ≡ Ok x) where
     value : Apdu c
     value = apdu_in c (one (lent s)) x
 
@@ -202,7 +200,7 @@ module _ (c : Choice) (laws : ChoiceLaws c) where
     -- they were.
     pub read_written : (t : List ℕ) → Bytes s → Bytes t → buffer_least ≤ length t → extended c (lent s) x ≡ false
         → write_out (found_fits c (one (lent s)) x) t (apdu_bits c (apdu_in c (one (lent s)) x)) ≡ done
-        (written.Bits (length (apdu_bits c (apdu_in c (one (lent s)) x)))) (s ++ drop (length s) t)
+        (Ok (length (apdu_bits c (apdu_in c (one (lent s)) x)))) (s ++ drop (length s) t)
     unfolding write_out
     read_written t hs ht g none =
         let m = apdu_most (apdu_in c (one (lent s)) x) accepted.fits in
@@ -218,21 +216,21 @@ module _ (c : Choice) (laws : ChoiceLaws c) where
     -- To write what was read leaves the APDU with the additions gone at the front of the buffer, and later bytes as they were.
     pub read_stripped : (t : List ℕ) → buffer_least ≤ length t
         → write_out (found_fits c (one (lent s)) x) t (apdu_bits c (apdu_in c (one (lent s)) x)) ≡ done
-        (written.Bits (length (apdu_bits c (apdu_in c (one (lent s)) x)))) (put_bits t 0 (strip c (lent s) x))
+        (Ok (length (apdu_bits c (apdu_in c (one (lent s)) x)))) (put_bits t 0 (strip c (lent s) x))
     unfolding write_out
     read_stripped t g = rw (le-ltb (length t) buffer_least g, accepted.stands, accepted.bits)
 
 -- ---- the writer's refusals, and no others
 
-pub refuses_room : (ok : Bool) (s bs : List ℕ) → length s < buffer_least → write_out ok s bs ≡ done written.Room s
+pub refuses_room : (ok : Bool) (s bs : List ℕ) → length s < buffer_least → write_out ok s bs ≡ done (Err Room) s
 unfolding write_out
 refuses_room ok s bs h = rw (lt-ltb (length s) buffer_least h)
 
-pub refuses_shape : (s bs : List ℕ) → buffer_least ≤ length s → write_out false s bs ≡ done written.Shape s
+pub refuses_shape : (s bs : List ℕ) → buffer_least ≤ length s → write_out false s bs ≡ done (Err Shape) s
 unfolding write_out
 refuses_shape s bs h = rw (le-ltb (length s) buffer_least h)
 
-pub writes : (s bs : List ℕ) → buffer_least ≤ length s → write_out true s bs ≡ done (written.Bits (length bs)) (put_bits s 0 (padded bs))
+pub writes : (s bs : List ℕ) → buffer_least ≤ length s → write_out true s bs ≡ done (Ok (length bs)) (put_bits s 0 (padded bs))
 unfolding write_out
 writes s bs h = rw (le-ltb (length s) buffer_least h)
 
@@ -240,7 +238,7 @@ writes s bs h = rw (le-ltb (length s) buffer_least h)
 
 pub record Whole (b : Body) (l : List ℕ) (v : b.Value) : Type 0 where
   pub content : Content
-  pub read : whole_at b l ≡ taken.Is content (length (b.bits v))
+  pub read : whole_at b l ≡ Ok (content, length (b.bits v))
   pub same : b.value (one l) content ≡ v
 
 module _ (b : Body) (laws : BodyLaws b) where
@@ -257,17 +255,8 @@ module _ (b : Body) (laws : BodyLaws b) where
       rw (front t (b.bits v) k (omega arith) g).bits (whole_accepted v k h)
 
   -- what was read by itself was read at 0
-  pub whole_read_is : (l : List ℕ) (c : Content) (next : ℕ) → whole_at b l ≡ taken.Is c next → b.read l 0 ≡ taken.Is c next
+  pub whole_read_is : (l : List ℕ) (c : Content) (next : ℕ) → whole_at b l ≡ Ok (c, next) → b.read l 0 ≡ Ok (c, next)
   unfolding whole_at
-  whole_read_is l c next e = from (b.read l 0) refl e
-    where
-      ended : (d : Content) (n : ℕ) (f : Field) → onto taken.Refused f (λ (v m : ℕ). taken.Is d n) ≡ taken.Is c next
-          → taken.Is d n ≡ taken.Is c next
-      ended d n (Value v m) p = p
-      ended d n (Refused r) p = never (cc)
-
-      from : (t : Taken) → b.read l 0 ≡ t
-          → on_taken t (λ (d : Content) (n : ℕ). onto taken.Refused (tail_at l n) (λ (v m : ℕ). taken.Is d n)) ≡ taken.Is c next
-          → b.read l 0 ≡ taken.Is c next
-      from (taken.Is d n) q p = q ∙ ended d n (tail_at l n) p
-      from (taken.Refused r) q p = never (cc)
+  whole_read_is l c next e =
+      via (b.read l 0 ≡ Ok (c, next)) (b.read l 0) _ (c, next) (λ (d : Content) (n : ℕ) (f : b.read l 0 ≡ Ok (d, n)) (k : then (tail_at l n) (λ (v m : ℕ). Ok (d, n)) ≡ Ok (c, next)).
+      via (b.read l 0 ≡ Ok (c, next)) (tail_at l n) _ (c, next) (λ (v m : ℕ) (t : tail_at l n ≡ Ok (v, m)) (j : ◌≡◌ {A = Reading Content} (Ok (d, n)) (Ok (c, next))). f ∙ j) k) e

@@ -1,19 +1,13 @@
 -- The alternatives: a number; a body; a mode and a body.
-use Rattle.std.specs.Prelude.{ℕ, ◌+◌, List, ◌++◌, Bool, true, false, cond, ◌&&◌, length, take, drop, eqb}
+use Rattle.std.specs.Prelude.{ℕ, ◌+◌, List, ◌++◌, Bool, true, false, cond, ◌&&◌, length, take, drop, eqb, Ok}
 use Rattle.bits.specs.Bits.{bits_n}
 use Rattle.fields.specs.Encodings.{index_bits, whole_bits, whole_fits}
-use Rattle.fields.specs.Fields.{refused_at, then, bit_field, whole_number, extensible_index, onto}
+use Rattle.fields.specs.Fields.{Reading, refused_at, then, bit_field, whole_number, extensible_index}
 use Rattle.fields.specs.declared.Fault.TheVariants.{Default}
-use Rattle.fields.specs.declared.Field.{Field}
-use Rattle.fields.specs.declared.Field.TheVariants as field
 use Rattle.machine.specs.declared.event.UserData.{UserData as Pdu}
 use Rattle.machine.specs.declared.event.UserData.TheVariants as pdu
 use Rattle.pdus.specs.declared.Content.{Content}
 use Rattle.front.specs.declared.Found.{Found}
-use Rattle.front.specs.declared.Taken.{Taken}
-use Rattle.front.specs.declared.Taken.TheVariants as taken
-use Rattle.front.specs.declared.Reached.{Reached}
-use Rattle.front.specs.declared.Reached.TheVariants as reached
 use Rattle.front.specs.Body.{Lent, Body, Alternative}
 use Rattle.front.specs.Runs.{no_content}
 
@@ -41,7 +35,7 @@ enumerated last p =
       Value = ℕ;
       fits = λ (v : ℕ). whole_fits 0 last v;
       bits = λ (v : ℕ). index_bits last v;
-      read = λ (l : List ℕ) (at : ℕ). onto reached.Refused (extensible_index l at last) (λ (v next : ℕ). reached.Is (with (p v) no_content) next);
+      read = λ (l : List ℕ) (at : ℕ). then (extensible_index l at last) (λ (v next : ℕ). Ok (with (p v) no_content, next));
       stands = λ (s : Lent) (x : Found). whole_fits 0 last (number_of x.pdu);
       value = λ (s : Lent) (x : Found). number_of x.pdu;
       extended = λ (l : List ℕ) (at : ℕ) (x : Found). false;
@@ -50,9 +44,8 @@ enumerated last p =
 
 -- ---- a body
 
-abbrev pub reach : Pdu → Taken → Reached
-reach p (taken.Is c next) = reached.Is (with p c) next
-reach p (taken.Refused r) = reached.Refused r
+abbrev pub reach : Pdu → Reading Content → Reading Found
+reach p f = then f (λ (c : Content) (next : ℕ). Ok (with p c, next))
 
 abbrev pub holding : Pdu → Body → Alternative
 holding p b =
@@ -76,11 +69,11 @@ unfoldable pub mode_bits : ℕ → List ℕ
 mode_bits m = cond (eqb m 0) (bits_n 1 0) (bits_n 1 1 ++ whole_bits 0 mode_last m)
 
 -- mode present: its default value is refused
-unfoldable pub mode_value : List ℕ → ℕ → Field
-mode_value l at = then (whole_number l at 0 mode_last) (λ (m next : ℕ). cond (eqb m 0) (refused_at at Default) (field.Value m next))
+unfoldable pub mode_value : List ℕ → ℕ → Reading ℕ
+mode_value l at = then (whole_number l at 0 mode_last) (λ (m next : ℕ). cond (eqb m 0) (refused_at at Default) (Ok (m, next)))
 
-unfoldable pub mode_at : List ℕ → ℕ → Field
-mode_at l at = then (bit_field l at 1) (λ (p next : ℕ). cond (eqb p 0) (field.Value 0 next) (mode_value l next))
+unfoldable pub mode_at : List ℕ → ℕ → Reading ℕ
+mode_at l at = then (bit_field l at 1) (λ (p next : ℕ). cond (eqb p 0) (Ok (0, next)) (mode_value l next))
 
 pub record Moded (A : Type 0) : Type 0 where
   pub mode : ℕ
@@ -96,7 +89,7 @@ moded b =
       Value = Moded b.Value;
       fits = λ (v : Moded b.Value). whole_fits 0 mode_last v.mode && b.fits v.held;
       bits = λ (v : Moded b.Value). mode_bits v.mode ++ b.bits v.held;
-      read = λ (l : List ℕ) (at : ℕ). onto reached.Refused (mode_at l at) (λ (m p : ℕ). reach (pdu.Start (eqb m 1)) (b.read l p));
+      read = λ (l : List ℕ) (at : ℕ). then (mode_at l at) (λ (m p : ℕ). reach (pdu.Start (eqb m 1)) (b.read l p));
       stands = λ (s : Lent) (x : Found). whole_fits 0 mode_last (number_of x.pdu) && b.stands s x.content;
       value = λ (s : Lent) (x : Found). record { mode = number_of x.pdu; held = b.value s x.content };
       extended = λ (l : List ℕ) (at : ℕ) (x : Found). b.extended l (behind_mode at x) x.content;

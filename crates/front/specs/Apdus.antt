@@ -1,21 +1,16 @@
 -- An APDU: the index of an alternative, and the value of its body.
-use Rattle.std.specs.Prelude.{ℕ, List, ◌++◌, Bool, ◌&&◌, length, take}
+use Rattle.std.specs.Prelude.{ℕ, List, ◌++◌, Bool, ◌&&◌, length, take, Err, Ok, Result}
 use Rattle.fields.specs.Encodings.{index_bits, whole_fits}
-use Rattle.fields.specs.Fields.{extensible_index, onto}
+use Rattle.fields.specs.Fields.{Reading, extensible_index, then}
 use Rattle.machine.specs.declared.event.UserData.{UserData as Pdu}
 use Rattle.machine.specs.declared.event.UserData.TheVariants as pdu
 use Rattle.pdus.specs.declared.Content.{Content}
 use Rattle.front.specs.declared.Found.{Found}
-use Rattle.front.specs.declared.Taken.{Taken}
-use Rattle.front.specs.declared.Taken.TheVariants as taken
-use Rattle.front.specs.declared.Reached.{Reached}
-use Rattle.front.specs.declared.Reached.TheVariants as reached
-use Rattle.front.specs.declared.Decoded.{Decoded}
-use Rattle.front.specs.declared.Decoded.TheVariants as decoded
 use Rattle.front.specs.Padding.{padded, tail_at}
 use Rattle.front.specs.Body.{Lent, Body, Alternative, Choice}
 use Rattle.front.specs.Runs.{no_content}
 use Rattle.front.specs.Alternatives.{with}
+use Rattle.fields.specs.declared.Refusal.{Refusal}
 
 pub record Apdu (c : Choice) : Type 0 where
   pub index : ℕ
@@ -32,20 +27,16 @@ apdu_bits c v = index_bits c.last v.index ++ (c.body v.index).bits v.held
 
 -- ---- reading
 
-abbrev pub on_reached : Reached → (Found → ℕ → Decoded) → Decoded
-on_reached (reached.Is x next) k = k x next
-on_reached (reached.Refused r) k = decoded.Refused r
+unfoldable pub ended_at : List ℕ → Found → ℕ → Result Found Refusal
+ended_at l x at = then (tail_at l at) (λ (v next : ℕ). Ok x)
 
-unfoldable pub ended_at : List ℕ → Found → ℕ → Decoded
-ended_at l x at = onto decoded.Refused (tail_at l at) (λ (v next : ℕ). decoded.Is x)
-
-unfoldable pub apdu_at : Choice → List ℕ → ℕ → Decoded
-apdu_at c l at = onto decoded.Refused (extensible_index l at c.last) (λ (i p : ℕ). on_reached ((c.body i).read l p) (ended_at l))
+unfoldable pub apdu_at : Choice → List ℕ → ℕ → Result Found Refusal
+apdu_at c l at = then (extensible_index l at c.last) (λ (i p : ℕ). then ((c.body i).read l p) (ended_at l))
 
 -- a refusal means "no valid PDU"
-abbrev pub found_in : Decoded → Found
-found_in (decoded.Is x) = x
-found_in (decoded.Refused r) = with pdu.NotValid no_content
+abbrev pub found_in : Result Found Refusal → Found
+found_in (Ok x) = x
+found_in (Err r) = with pdu.NotValid no_content
 
 -- ---- what was found
 
@@ -83,9 +74,5 @@ strip c l x = padded (take (front_end c x) l ++ (body_of c x).plain l (front_end
 
 -- ---- a body by itself, as it is delivered: and nothing after it but the padding
 
-abbrev pub on_taken : Taken → (Content → ℕ → Taken) → Taken
-on_taken (taken.Is c next) k = k c next
-on_taken (taken.Refused r) k = taken.Refused r
-
-unfoldable pub whole_at : Body → List ℕ → Taken
-whole_at b l = on_taken (b.read l 0) (λ (c : Content) (next : ℕ). onto taken.Refused (tail_at l next) (λ (v m : ℕ). taken.Is c next))
+unfoldable pub whole_at : Body → List ℕ → Reading Content
+whole_at b l = then (b.read l 0) (λ (c : Content) (next : ℕ). then (tail_at l next) (λ (v m : ℕ). Ok (c, next)))

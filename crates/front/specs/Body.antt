@@ -3,9 +3,8 @@
 use Rattle.std.specs.Prelude.{ℕ, List, Bool}
 use Rattle.pdus.specs.declared.Content.{Content}
 use Rattle.front.specs.declared.Found.{Found}
-use Rattle.front.specs.declared.Taken.{Taken}
-use Rattle.front.specs.declared.Reached.{Reached}
 use Rattle.front.specs.Padding.{lent}
+use Rattle.fields.specs.Fields.{Reading}
 
 -- the bits that the parts of a content stand in: those of the identifier, of the message, of the check
 pub record Lent : Type 0 where
@@ -29,7 +28,7 @@ pub record Body : Type 1 where
   -- what a user is delivered of a value
   pub shown : Value → List ℕ
   -- what is read at a place
-  pub read : List ℕ → ℕ → Taken
+  pub read : List ℕ → ℕ → Reading Content
   -- what was read stands for a value: whether it is within the sizes and in the lent bits, and the value
   pub stands : Lent → Content → Bool
   pub value : Lent → Content → Value
@@ -42,7 +41,7 @@ pub record Alternative : Type 1 where
   pub Value : Type 0
   pub fits : Value → Bool
   pub bits : Value → List ℕ
-  pub read : List ℕ → ℕ → Reached
+  pub read : List ℕ → ℕ → Reading Found
   pub stands : Lent → Found → Bool
   pub value : Lent → Found → Value
   pub extended : List ℕ → ℕ → Found → Bool

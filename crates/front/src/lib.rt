@@ -2,7 +2,6 @@
 // crate knows no more than `Body` says. No function is in here.
 #![tactic(auto)]
 
-use fields::Refusal;
 use machine::event::UserData;
 use pdus::Content;
 
@@ -11,25 +10,4 @@ use pdus::Content;
 pub struct Found {
     pub pdu: UserData,
     pub content: Content,
-}
-
-// What reading a body finds: where its parts stand, and the place after it.
-#[derive(Drop)]
-pub enum Taken {
-    Is(Content, usize),
-    Refused(Refusal),
-}
-
-// What reading an alternative finds: which PDU, where its content stands, and the place after it.
-#[derive(Drop)]
-pub enum Reached {
-    Is(Found, usize),
-    Refused(Refusal),
-}
-
-// What reading an APDU finds.
-#[derive(Drop)]
-pub enum Decoded {
-    Is(Found),
-    Refused(Refusal),
 }

@@ -8,42 +8,37 @@ use native.Mathlib.Omega.{arith}
 use lib.ListN.{length, take, drop, length-append, take-append-drop}
 use lib.Dec.{leb}
 use borrow.Author.Tests.{eqb-true, leb-false}
-use Rattle.words.proofs.Laws.{both_left, both_right}
-use Rattle.fields.specs.Fields.{refusal}
+use Rattle.words.proofs.Laws.{both_left, both_right, ok_place, ok_value}
+use Rattle.fields.specs.Fields.{Reading, refused_at}
 use Rattle.fields.specs.declared.Fault.TheVariants as fault
 use Rattle.kinds.specs.declared.Direction.{Direction}
 use Rattle.elements.specs.declared.values.Element.{Element}
-use Rattle.elements.specs.declared.values.Step.{Step}
-use Rattle.elements.specs.declared.values.Step.TheVariants as step
 use Rattle.elements.specs.OneElement.{element_fits}
 use Rattle.elements.proofs.Measured.{few_characters}
-use Rattle.elements.proofs.Steps.{never}
+use Rattle.elements.proofs.Steps.{never, then_is}
 use Rattle.inner.specs.declared.values.Message.{Message}
 use Rattle.inner.specs.Places.{row_fits}
-use Rattle.inner.specs.Messages.{no_message, message_at, ended_at, exactly, is_message}
+use Rattle.inner.specs.Messages.{message_at, exactly}
+use Rattle.std.specs.Prelude.{Ok}
 
 -- ---- a message and nothing after it was read
 
 pub record ReadIs (d : Direction) (l : List ℕ) (m : Message) (next : ℕ) : Type 0 where
-  pub there : message_at d l 0 ≡ is_message m next
+  pub there : message_at d l 0 ≡ Ok (m, next)
   pub ends : length l ≤ next
 
-pub exactly_is : (d : Direction) (l : List ℕ) (next : ℕ) → (exactly d l).step ≡ step.Next next → ReadIs d l (exactly d l).message next
+pub exactly_is : (d : Direction) (l : List ℕ) (m : Message) (next : ℕ) → exactly d l ≡ Ok (m, next) → ReadIs d l m next
 unfolding exactly
-exactly_is d l next h = go (message_at d l 0).step refl h
+exactly_is d l m next h = then_is (message_at d l 0) _ (m, next)
+    (λ (x : Message) (k : ℕ) (p : message_at d l 0 ≡ Ok (x, k)) (e : _). ended x k p (leb (k + 1) (length l)) refl e) h
   where
-    ended : (k : ℕ) → (message_at d l 0).step ≡ step.Next k → (b : Bool) → leb (k + 1) (length l) ≡ b
-        → (cond b (no_message (refusal k fault.Tail)) (is_message (message_at d l 0).message k)).step ≡ step.Next next
-        → ReadIs d l (cond b (no_message (refusal k fault.Tail)) (is_message (message_at d l 0).message k)).message next
-    ended k p true q e = never (cc)
-    ended k p false q e =
-        let j : k ≡ next = cc in
-        record { there = rw (← j, ← p); ends = let o = leb-false (k + 1) (length l) q in omega arith }
-
-    go : (s : Step) → (message_at d l 0).step ≡ s → (ended_at l (message_at d l 0).message s).step ≡ step.Next next
-        → ReadIs d l (ended_at l (message_at d l 0).message s).message next
-    go (step.Next k) p e = ended k p (leb (k + 1) (length l)) refl e
-    go (step.Refused r) p e = never (cc)
+    ended : (x : Message) (k : ℕ) → message_at d l 0 ≡ Ok (x, k) → (b : Bool) → leb (k + 1) (length l) ≡ b
+        → cond {A = Reading Message} b (refused_at k fault.Tail) (Ok (x, k)) ≡ Ok (m, next) → ReadIs d l m next
+    ended x k p true q e = never (cc)
+    ended x k p false q e =
+        let j : k ≡ next = ok_place e in
+        let i : x ≡ m = ok_value e in
+        record { there = rw (← i, ← j) p; ends = let o = leb-false (k + 1) (length l) q in omega arith }
 
 -- ---- how many characters there are
 

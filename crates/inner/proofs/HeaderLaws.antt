@@ -9,34 +9,27 @@ use native.Mathlib.Nat.{add-zero}
 use lib.ListN.{length}
 use lib.Dec.{eqb, leb}
 use borrow.Author.Tests.{eqb-true, eqb-false}
-use Rattle.words.proofs.Laws.{both_left, both_right}
+use Rattle.words.proofs.Laws.{both_left, both_right, ok_place, ok_value}
 use Rattle.bits.proofs.Numbers.{Bits}
-use Rattle.fields.specs.Fields.{then, refused_at, whole_number, onto}
+use Rattle.fields.specs.Fields.{Reading, then, refused_at, whole_number}
 use Rattle.fields.specs.Encodings.{whole_bits, whole_fits}
 use Rattle.fields.specs.declared.Refusal.{Refusal}
 use Rattle.fields.specs.declared.Fault.TheVariants as fault
-use Rattle.fields.specs.declared.Field.{Field}
-use Rattle.fields.specs.declared.Field.TheVariants as field
 use Rattle.elements.specs.declared.values.Time.{Time}
-use Rattle.elements.specs.declared.values.TimeRead.{TimeRead}
-use Rattle.elements.specs.declared.values.TimeRead.TheVariants as time
 use Rattle.inner.specs.declared.values.DateTime.{DateTime}
-use Rattle.inner.specs.declared.values.DateTimeRead.{DateTimeRead}
-use Rattle.inner.specs.declared.values.DateTimeRead.TheVariants as date
 use Rattle.inner.specs.declared.values.Header.{Header}
-use Rattle.inner.specs.declared.values.HeaderRead.{HeaderRead}
-use Rattle.inner.specs.declared.values.HeaderRead.TheVariants as header
 use Rattle.elements.specs.Arguments.{flag, time_fits, time_bits, time_at}
-use Rattle.inner.specs.Headers.{date_time_fits, date_time_bits, onto_time_of_day, time_of_day_at, date_time_at, presence, reference_fits, reference_bits, reference_at, acknowledgement_bits, acknowledgement_at, header_fits, header_bits, onto_date, header_of, dated_at, header_at}
+use Rattle.inner.specs.Headers.{date_time_fits, date_time_bits, time_of_day_at, date_time_at, presence, reference_fits, reference_bits, reference_at, acknowledgement_bits, acknowledgement_at, header_fits, header_bits, header_of, dated_at, header_at}
 use Rattle.elements.proofs.Standing.{Stands, stands_join, stands_split, stands_as, stands_nothing}
-use Rattle.elements.proofs.Steps.{never, onto_is}
-use Rattle.elements.proofs.Whole.{ranged, whole_reads, whole_stands, whole_below}
+use Rattle.elements.proofs.Steps.{never, then_is}
+use Rattle.elements.proofs.Whole.{ranged, whole_reads, whole_stands, whole_below, whole_most}
 use Rattle.elements.proofs.Times.{time_reads, time_stands}
+use Rattle.std.specs.Prelude.{Err, Ok}
 
 -- ---- date and time
 
 pub date_time_reads : (l : List ℕ) (at next : ℕ) (x : DateTime) → Stands l at (date_time_fits x) (date_time_bits x) next
-    → date_time_at l at ≡ date.Got x next
+    → date_time_at l at ≡ Ok (x, next)
 unfolding date_time_fits date_time_bits date_time_at time_of_day_at
 date_time_reads l at next x s =
     let y : List ℕ = whole_bits 1996 2095 x.year in
@@ -57,82 +50,70 @@ date_time_reads l at next x s =
       whole_reads l _ 0 59 x.seconds next (ranged 0 59 tt tt) e.1,
     )
 
-minute_is : {R : Type 0} (f : TimeRead) (k : Time → ℕ → DateTimeRead) (o : DateTimeRead) → ((x : Time) (n : ℕ) → f ≡ time.Got x n → k x n ≡ o → R) → ((r : Refusal) → date.Refused r ≡ o → R) → onto_time_of_day f k ≡ o → R
-minute_is (time.Got x n) k o go bad e = go x n refl e
-minute_is (time.Refused r) k o go bad e = bad r e
-
-module _ (l : List ℕ) (at next : ℕ) (x : DateTime) (bits : Bits l) where
-  refused : {R : Type 0} (r : Refusal) → date.Refused r ≡ date.Got x next → R
-  refused r h = never (cc)
-
-  pub date_time_stands : date_time_at l at ≡ date.Got x next → Stands l at (date_time_fits x) (date_time_bits x) next
-  unfolding date_time_fits date_time_bits date_time_at time_of_day_at
-  date_time_stands h =
-      onto_is date.Refused (whole_number l at 1996 2095) _ (date.Got x next)
-      (λ (y p : ℕ) (ey : whole_number l at 1996 2095 ≡ field.Value y p) (hy : _). onto_is date.Refused (whole_number l p 1 12) _ (date.Got x next)
-      (λ (m q : ℕ) (em : whole_number l p 1 12 ≡ field.Value m q) (hm : _). onto_is date.Refused (whole_number l q 1 31) _ (date.Got x next)
-      (λ (d r : ℕ) (ed : whole_number l q 1 31 ≡ field.Value d r) (hd : _). minute_is (time_at l r) _ (date.Got x next)
-      (λ (t : Time) (u : ℕ) (et : time_at l r ≡ time.Got t u) (ht : _). onto_is date.Refused (whole_number l u 0 59) _ (date.Got x next)
-      (λ (s n : ℕ) (es : whole_number l u 0 59 ≡ field.Value s n) (hs : date.Got (record { year = y; month = m; day = d; time = t; seconds = s }) n ≡ date.Got x next).
-      let i : ◌≡◌ {A = DateTime} (record { year = y; month = m; day = d; time = t; seconds = s }) x = cc in
-      let j : n ≡ next = cc in
-      rw (← i, ← j) (stands_join l at u n _ _ _ _ (stands_join l at r u _ _ _ _ (stands_join l at q r _ _ _ _ (
-      stands_join l at p q _ _ _ _ (whole_stands l at 1996 2095 y p bits ey)
-      (whole_stands l p 1 12 m q bits em)) (whole_stands l q 1 31 d r bits ed))
-      (time_stands l r u t bits et)) (whole_stands l u 0 59 s n bits es)))
-      refused
-      ht)
-      refused
-      hd)
-      refused
-      hm)
-      refused
-      hy)
-      refused
-      h
+pub date_time_stands : (l : List ℕ) (at next : ℕ) (x : DateTime) → Bits l → date_time_at l at ≡ Ok (x, next)
+    → Stands l at (date_time_fits x) (date_time_bits x) next
+unfolding date_time_fits date_time_bits date_time_at time_of_day_at
+date_time_stands l at next x bits h =
+    then_is (whole_number l at 1996 2095) _ (x, next)
+    (λ (y p : ℕ) (ey : whole_number l at 1996 2095 ≡ Ok (y, p)) (hy : _). then_is (whole_number l p 1 12) _ (x, next)
+    (λ (m q : ℕ) (em : whole_number l p 1 12 ≡ Ok (m, q)) (hm : _). then_is (whole_number l q 1 31) _ (x, next)
+    (λ (d r : ℕ) (ed : whole_number l q 1 31 ≡ Ok (d, r)) (hd : _). then_is (time_at l r) _ (x, next)
+    (λ (t : Time) (u : ℕ) (et : time_at l r ≡ Ok (t, u)) (ht : _). then_is (whole_number l u 0 59) _ (x, next)
+    (λ (s n : ℕ) (es : whole_number l u 0 59 ≡ Ok (s, n)) (hs : Ok (record { year = y; month = m; day = d; time = t; seconds = s }, n) ≡ Ok (x, next)).
+    let i : ◌≡◌ {A = DateTime} (record { year = y; month = m; day = d; time = t; seconds = s }) x = ok_value hs in
+    let j : n ≡ next = ok_place hs in
+    rw (← i, ← j) (stands_join l at u n _ _ _ _ (stands_join l at r u _ _ _ _ (stands_join l at q r _ _ _ _ (
+    stands_join l at p q _ _ _ _ (whole_stands l at 1996 2095 y p bits ey)
+    (whole_stands l p 1 12 m q bits em)) (whole_stands l q 1 31 d r bits ed))
+    (time_stands l r u t bits et)) (whole_stands l u 0 59 s n bits es)))
+    ht)
+    hd)
+    hm)
+    hy)
+    h
 
 -- ---- what may be absent
 
 pub reference_reads : (l : List ℕ) (at next n : ℕ) (b : Bool) → Stands l at (reference_fits b n) (reference_bits b n) next
-    → reference_at l at b ≡ field.Value n next
+    → reference_at l at b ≡ Ok (n, next)
 unfolding reference_fits reference_bits reference_at
 reference_reads l at next n true s = whole_reads l at 0 63 n next (ranged 0 63 tt tt) s
 reference_reads l at next n false s = rw (eqb-true n 0 s.fits, s.place ∙ add-zero at)
 
-pub reference_stands : (l : List ℕ) (at next n : ℕ) (b : Bool) → Bits l → reference_at l at b ≡ field.Value n next
+pub reference_stands : (l : List ℕ) (at next n : ℕ) (b : Bool) → Bits l → reference_at l at b ≡ Ok (n, next)
     → Stands l at (reference_fits b n) (reference_bits b n) next
 unfolding reference_fits reference_bits reference_at
 reference_stands l at next n true bits h = whole_stands l at 0 63 n next bits h
 reference_stands l at next n false bits h =
-    let i : 0 ≡ n = cc in
-    let j : at ≡ next = cc in
+    let i : 0 ≡ n = ok_value h in
+    let j : at ≡ next = ok_place h in
     rw (← i, ← j) (stands_nothing l at true refl)
 
+pub reference_most : (l : List ℕ) (at v next : ℕ) (b : Bool) (f : Reading ℕ) → f ≡ reference_at l at b → f ≡ Ok (v, next) → v ≤ 63
+unfolding reference_at
+reference_most l at v next true f p q = whole_most l at 0 63 v next f p q
+reference_most l at v next false f p q = let i : 0 ≡ v = ok_value (sym p ∙ q) in omega arith
+
 pub ack_reads : (l : List ℕ) (at next : ℕ) (b : Bool) → Stands l at true (acknowledgement_bits b) next
-    → acknowledgement_at l at b ≡ field.Value 0 next
+    → acknowledgement_at l at b ≡ Ok (0, next)
 unfolding acknowledgement_bits acknowledgement_at
 ack_reads l at next true s = rw (whole_reads l at 0 1 0 next (ranged 0 1 tt tt) (stands_as l at next _ _ _ refl s))
 ack_reads l at next false s = rw (s.place ∙ add-zero at)
 
-pub ack_stands : (l : List ℕ) (at next v : ℕ) (b : Bool) → Bits l → acknowledgement_at l at b ≡ field.Value v next
+pub ack_stands : (l : List ℕ) (at next v : ℕ) (b : Bool) → Bits l → acknowledgement_at l at b ≡ Ok (v, next)
     → Stands l at true (acknowledgement_bits b) next
 unfolding acknowledgement_bits acknowledgement_at
-ack_stands l at next v false bits h = let j : at ≡ next = cc in rw (← j) (stands_nothing l at true refl)
-ack_stands l at next v true bits h = go (whole_number l at 0 1) refl h
+ack_stands l at next v false bits h = let j : at ≡ next = ok_place h in rw (← j) (stands_nothing l at true refl)
+ack_stands l at next v true bits h = then_is (whole_number l at 0 1) _ (v, next)
+    (λ (k m : ℕ) (p : whole_number l at 0 1 ≡ Ok (k, m)) (q : _). required k m p (eqb k 0) refl q) h
   where
-    required : (k m : ℕ) → whole_number l at 0 1 ≡ field.Value k m → (t : Bool) → eqb k 0 ≡ t
-        → cond t (field.Value 0 m) (refused_at at fault.Default) ≡ field.Value v next
+    required : (k m : ℕ) → whole_number l at 0 1 ≡ Ok (k, m) → (t : Bool) → eqb k 0 ≡ t
+        → cond {A = Reading ℕ} t (Ok (0, m)) (refused_at at fault.Default) ≡ Ok (v, next)
         → Stands l at true (whole_bits 0 1 0) next
     required k m p true z q =
-        let j : m ≡ next = cc in
+        let j : m ≡ next = ok_place q in
         rw (← j) (stands_as l at m _ _ _ refl (rw (eqb-true k 0 z) at (whole_stands l at 0 1 k m bits p)))
     required k m p false z q = never (cc)
-
-    go : (f : Field) → whole_number l at 0 1 ≡ f
-        → then f (λ (k m : ℕ). cond (eqb k 0) (field.Value 0 m) (refused_at at fault.Default)) ≡ field.Value v next
-        → Stands l at true (whole_bits 0 1 0) next
-    go (field.Value k m) p q = required k m p (eqb k 0) refl q
-    go (field.Refused r) p q = never (cc)
 
 -- ---- the header
 
@@ -162,7 +143,7 @@ presence_fits false true = refl
 presence_fits false false = refl
 
 pub header_reads : (l : List ℕ) (at next : ℕ) (x : Header) → Stands l at (header_fits x) (header_bits x) next
-    → header_at l at ≡ header.Got x next
+    → header_at l at ≡ Ok (x, next)
 unfolding header_fits header_bits header_at dated_at
 header_reads l at next x s =
     let b : ℕ = presence x.referenced x.acknowledged in
@@ -190,10 +171,6 @@ header_reads l at next x s =
       ack_reads l _ next x.acknowledged e.1,
     )
 
-date_is : {R : Type 0} (f : DateTimeRead) (k : DateTime → ℕ → HeaderRead) (o : HeaderRead) → ((x : DateTime) (n : ℕ) → f ≡ date.Got x n → k x n ≡ o → R) → ((r : Refusal) → header.Refused r ≡ o → R) → onto_date f k ≡ o → R
-date_is (date.Got x n) k o go bad e = go x n refl e
-date_is (date.Refused r) k o go bad e = bad r e
-
 -- the parts that were read stand there as a header
 header_made : (l : List ℕ) (at p q r u next b i n : ℕ) (x : DateTime)
     → Stands l at (whole_fits 0 3 b) (whole_bits 0 3 b) p → Stands l p (whole_fits 0 63 i) (whole_bits 0 63 i) q
@@ -207,31 +184,23 @@ header_made l at p q r u next b i n x sb si sr sx sa =
     (stands_join l at r u _ _ _ _ (stands_join l at q r _ _ _ _ (stands_join l at p q _ _ _ _ sb si) sr) sx)
     sa))
 
-module _ (l : List ℕ) (at next : ℕ) (x : Header) (bits : Bits l) where
-  no_header : {R : Type 0} (r : Refusal) → header.Refused r ≡ header.Got x next → R
-  no_header r h = never (cc)
-
-  pub header_stands : header_at l at ≡ header.Got x next → Stands l at (header_fits x) (header_bits x) next
-  unfolding header_at dated_at
-  header_stands h =
-      onto_is header.Refused (whole_number l at 0 3) _ (header.Got x next)
-      (λ (b p : ℕ) (eb : whole_number l at 0 3 ≡ field.Value b p) (hb : _). onto_is header.Refused (whole_number l p 0 63) _ (header.Got x next)
-      (λ (i q : ℕ) (ei : whole_number l p 0 63 ≡ field.Value i q) (hi : _). onto_is header.Refused (reference_at l q (leb 2 b)) _ (header.Got x next)
-      (λ (n r : ℕ) (en : reference_at l q (leb 2 b) ≡ field.Value n r) (hn : _). date_is (date_time_at l r) _ (header.Got x next)
-      (λ (d : DateTime) (u : ℕ) (ed : date_time_at l r ≡ date.Got d u) (hd : _). onto_is header.Refused (acknowledgement_at l u (eqb (b % 2) 1)) _ (header.Got x next)
-      (λ (z m : ℕ) (ez : acknowledgement_at l u (eqb (b % 2) 1) ≡ field.Value z m) (hz : header.Got (header_of i (leb 2 b) n d (eqb (b % 2) 1)) m ≡ header.Got x next).
-      let j : header_of i (leb 2 b) n d (eqb (b % 2) 1) ≡ x = cc in
-      let k : m ≡ next = cc in
-      rw (← j, ← k) (header_made l at p q r u m b i n d (whole_stands l at 0 3 b p bits eb)
-      (whole_stands l p 0 63 i q bits ei) (reference_stands l q r n (leb 2 b) bits en)
-      (date_time_stands l r u d bits ed) (ack_stands l u m z (eqb (b % 2) 1) bits ez)))
-      no_header
-      hd)
-      no_header
-      hn)
-      no_header
-      hi)
-      no_header
-      hb)
-      no_header
-      h
+pub header_stands : (l : List ℕ) (at next : ℕ) (x : Header) → Bits l → header_at l at ≡ Ok (x, next)
+    → Stands l at (header_fits x) (header_bits x) next
+unfolding header_at dated_at
+header_stands l at next x bits h =
+    then_is (whole_number l at 0 3) _ (x, next)
+    (λ (b p : ℕ) (eb : whole_number l at 0 3 ≡ Ok (b, p)) (hb : _). then_is (whole_number l p 0 63) _ (x, next)
+    (λ (i q : ℕ) (ei : whole_number l p 0 63 ≡ Ok (i, q)) (hi : _). then_is (reference_at l q (leb 2 b)) _ (x, next)
+    (λ (n r : ℕ) (en : reference_at l q (leb 2 b) ≡ Ok (n, r)) (hn : _). then_is (date_time_at l r) _ (x, next)
+    (λ (d : DateTime) (u : ℕ) (ed : date_time_at l r ≡ Ok (d, u)) (hd : _). then_is (acknowledgement_at l u (eqb (b % 2) 1)) _ (x, next)
+    (λ (z m : ℕ) (ez : acknowledgement_at l u (eqb (b % 2) 1) ≡ Ok (z, m)) (hz : Ok (header_of i (leb 2 b) n d (eqb (b % 2) 1), m) ≡ Ok (x, next)).
+    let j : header_of i (leb 2 b) n d (eqb (b % 2) 1) ≡ x = ok_value hz in
+    let k : m ≡ next = ok_place hz in
+    rw (← j, ← k) (header_made l at p q r u m b i n d (whole_stands l at 0 3 b p bits eb)
+    (whole_stands l p 0 63 i q bits ei) (reference_stands l q r n (leb 2 b) bits en)
+    (date_time_stands l r u d bits ed) (ack_stands l u m z (eqb (b % 2) 1) bits ez)))
+    hd)
+    hn)
+    hi)
+    hb)
+    h

@@ -10,13 +10,10 @@ use lib.Dec.{leb}
 use Rattle.words.proofs.Laws.{both_left, both_right}
 use Rattle.bits.specs.Bits.{num_of}
 use Rattle.bits.specs.Put.{left, put_number}
-use Rattle.bits.specs.declared.Put.{Put}
 use Rattle.bits.proofs.Numbers.{num_append, num_lt}
 use Rattle.bits.proofs.Inside.{is_within}
 use Rattle.fields.specs.Fields.{width_of, digits_in}
 use Rattle.fields.specs.Encodings.{whole_bits, whole_fits}
-use Rattle.elements.specs.declared.values.Size.{Size}
-use Rattle.elements.specs.declared.values.Size.TheVariants as size
 use Rattle.elements.specs.Arguments.{flag, time_fits, time_bits}
 use Rattle.elements.specs.Writing.{put_pieces}
 use Rattle.elements.proofs.Joined.{joined_put, num_whole, whole_behind}
@@ -30,6 +27,7 @@ use Rattle.inner.proofs.HeaderLaws.{presence_fits}
 use Rattle.inner.proofs.HeaderPieces.{flag_most}
 use Rattle.inner.proofs.HeaderWritten.{header_bits_is, header_fit, date_length, length_header}
 use Rattle.inner.proofs.RowPieces.{sized, sized_yes}
+use Rattle.std.specs.Prelude.{Option, Some}
 
 -- a whole number behind others, by how many numbers its bits hold
 behind : (xs : List ℕ) (lo hi v k p : ℕ) → hi < 2 ^ 64 → width_of (hi - lo) ≡ k → 2 ^ k ≡ p → whole_fits lo hi v ≡ true
@@ -193,7 +191,7 @@ module _ (x : Header) (h : header_fits x ≡ true) where
 
 -- ---- written as one number
 
-pub header_joined : (x : Header) (s t : List ℕ) (e at n v : ℕ) (a : Put) → left a t ≡ put_number s e at n v
+pub header_joined : (x : Header) (s t : List ℕ) (e at n v : ℕ) (a : Option ℕ) → left a t ≡ put_number s e at n v
     → (header_fits x ≡ true) × (n ≡ length (header_bits x)) → v ≡ num_of (header_bits x) → (b : Bool)
     → b ≡ leb (at + n) (min e (8 * length s)) → b ≡ true → left a t ≡ put_pieces s e at (header_pieces x)
 header_joined x s t e at n v a h f pv b p q =
@@ -203,6 +201,6 @@ header_joined x s t e at n v a h f pv b p q =
     (omega (arith, f.1, length_header x, flag_most x.referenced _ refl, flag_most x.acknowledged _ refl))
     (is_within s e at n b p q) h
 
-pub header_sized : (x : Header) (o : Size) (n : ℕ) → o ≡ sized (header_fits x) (header_bits x) → o ≡ size.Bits n
+pub header_sized : (x : Header) (o : Option ℕ) (n : ℕ) → o ≡ sized (header_fits x) (header_bits x) → o ≡ Some n
     → (header_fits x ≡ true) × (n ≡ length (header_bits x))
 header_sized x o n p q = sized_yes (header_fits x) (header_bits x) n (sym q ∙ p)

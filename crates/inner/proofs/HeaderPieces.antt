@@ -6,8 +6,6 @@ use mathlib.Core.List.{List, [], ◌∷◌, ◌++◌}
 use Prim.Native.Nat.{ℕ, ◌+◌, ◌*◌, ◌≤◌}
 use native.Mathlib.Omega.{arith}
 use Rattle.bits.specs.Put.{left}
-use Rattle.bits.specs.declared.Put.{Put}
-use Rattle.bits.specs.declared.Put.TheVariants.{Next, Full}
 use Rattle.elements.specs.Arguments.{flag}
 use Rattle.elements.specs.Writing.{Piece, whole, put_pieces, time_pieces}
 use Rattle.inner.specs.declared.values.DateTime.{DateTime}
@@ -15,10 +13,11 @@ use Rattle.inner.specs.declared.values.Header.{Header}
 use Rattle.inner.specs.Headers.{presence}
 use Rattle.inner.specs.Writing.{date_time_pieces, reference_pieces, acknowledgement_pieces, header_pieces}
 use Rattle.inner.proofs.Runs.{run_turn, run_full}
+use Rattle.std.specs.Prelude.{None, Option, Some}
 
 -- ---- as the code writes them
 
-module _ (x : DateTime) (s : List ℕ) (e at : ℕ) (t : List ℕ) (a : Put) (k : left a t ≡ put_pieces s e at (whole 1996 2095 x.year ∷ whole 1 12 x.month ∷ [])) where
+module _ (x : DateTime) (s : List ℕ) (e at : ℕ) (t : List ℕ) (a : Option ℕ) (k : left a t ≡ put_pieces s e at (whole 1996 2095 x.year ∷ whole 1 12 x.month ∷ [])) where
   first : List Piece
   first = whole 1996 2095 x.year ∷ whole 1 12 x.month ∷ []
 
@@ -32,26 +31,26 @@ module _ (x : DateTime) (s : List ℕ) (e at : ℕ) (t : List ℕ) (a : Put) (k 
   unfolding date_time_pieces time_pieces first second third
   date_is = refl
 
-  pub date_first : a ≡ Full → left Full t ≡ put_pieces s e at (date_time_pieces x)
+  pub date_first : a ≡ None → left None t ≡ put_pieces s e at (date_time_pieces x)
   unfolding first
   date_first q = run_full s e at first (second ++ third) _ date_is t a k q
 
-  module _ (p : ℕ) (q : a ≡ Next p) (u : List ℕ) (b : Put) (m : left b u ≡ put_pieces t e p (whole 1 31 x.day ∷ whole 0 23 x.time.hours ∷ [])) where
+  module _ (p : ℕ) (q : a ≡ Some p) (u : List ℕ) (b : Option ℕ) (m : left b u ≡ put_pieces t e p (whole 1 31 x.day ∷ whole 0 23 x.time.hours ∷ [])) where
     after_first : put_pieces t e p (second ++ third) ≡ put_pieces s e at (date_time_pieces x)
     unfolding first
     after_first = run_turn s e at first (second ++ third) _ date_is t a k p q
 
-    pub date_second : b ≡ Full → left Full u ≡ put_pieces s e at (date_time_pieces x)
+    pub date_second : b ≡ None → left None u ≡ put_pieces s e at (date_time_pieces x)
     unfolding second
     date_second r = run_full t e p second third _ after_first u b m r
 
-    pub date_third : (n : ℕ) → b ≡ Next n → (z : List ℕ) (c : Put)
+    pub date_third : (n : ℕ) → b ≡ Some n → (z : List ℕ) (c : Option ℕ)
         → left c z ≡ put_pieces u e n (whole 0 59 x.time.minutes ∷ whole 0 59 x.seconds ∷ [])
         → left c z ≡ put_pieces s e at (date_time_pieces x)
     unfolding second third
     date_third n r z c w = w ∙ run_turn t e p second third _ after_first u b m n r
 
-module _ (x : Header) (s : List ℕ) (e at f g : ℕ) (hf : f ≡ flag x.referenced) (hg : g ≡ flag x.acknowledged) (t : List ℕ) (a : Put) (k : left a t ≡ put_pieces s e at (whole 0 3 (2 * f + g) ∷ whole 0 63 x.identification ∷ [])) where
+module _ (x : Header) (s : List ℕ) (e at f g : ℕ) (hf : f ≡ flag x.referenced) (hg : g ≡ flag x.acknowledged) (t : List ℕ) (a : Option ℕ) (k : left a t ≡ put_pieces s e at (whole 0 3 (2 * f + g) ∷ whole 0 63 x.identification ∷ [])) where
   rest : List Piece
   rest = reference_pieces x.referenced x.reference ++ (date_time_pieces x.dated ++ acknowledgement_pieces x.acknowledged)
 
@@ -64,12 +63,12 @@ module _ (x : Header) (s : List ℕ) (e at f g : ℕ) (hf : f ≡ flag x.referen
   lead : left a t ≡ put_pieces s e at (whole 0 3 (presence x.referenced x.acknowledged) ∷ whole 0 63 x.identification ∷ [])
   lead = rw (hf, hg) at k
 
-  pub header_first : a ≡ Full → left Full t ≡ put_pieces s e at (header_pieces x)
+  pub header_first : a ≡ None → left None t ≡ put_pieces s e at (header_pieces x)
   header_first q = run_full s e at
       (whole 0 3 (presence x.referenced x.acknowledged) ∷ whole 0 63 x.identification ∷ []) rest _ header_is t
       a lead q
 
-  module _ (p : ℕ) (q : a ≡ Next p) (u : List ℕ) (b : Put) (m : left b u ≡ put_pieces t e p (reference_pieces x.referenced x.reference)) where
+  module _ (p : ℕ) (q : a ≡ Some p) (u : List ℕ) (b : Option ℕ) (m : left b u ≡ put_pieces t e p (reference_pieces x.referenced x.reference)) where
     after_lead : put_pieces t e p (reference_pieces x.referenced x.reference ++
         (date_time_pieces x.dated ++ acknowledgement_pieces x.acknowledged)) ≡ put_pieces s e at (header_pieces x)
     unfolding rest
@@ -77,10 +76,10 @@ module _ (x : Header) (s : List ℕ) (e at f g : ℕ) (hf : f ≡ flag x.referen
         (whole 0 3 (presence x.referenced x.acknowledged) ∷ whole 0 63 x.identification ∷ []) rest _ header_is
         t a lead p q
 
-    pub header_second : b ≡ Full → left Full u ≡ put_pieces s e at (header_pieces x)
+    pub header_second : b ≡ None → left None u ≡ put_pieces s e at (header_pieces x)
     header_second r = run_full t e p (reference_pieces x.referenced x.reference) _ _ after_lead u b m r
 
-    pub header_third : (n : ℕ) → b ≡ Next n → (z : List ℕ) (c : Put)
+    pub header_third : (n : ℕ) → b ≡ Some n → (z : List ℕ) (c : Option ℕ)
         → left c z ≡ put_pieces u e n (date_time_pieces x.dated ++ acknowledgement_pieces x.acknowledged)
         → left c z ≡ put_pieces s e at (header_pieces x)
     header_third n r z c w = w ∙ run_turn t e p (reference_pieces x.referenced x.reference) _ _ after_lead u b m n r

@@ -13,21 +13,19 @@ use lib.Pow.{high, pow_mono}
 use borrow.Author.Tests.{eqb-true}
 use Rattle.bits.specs.Bits.{bits_n, bits_to, num_of}
 use Rattle.bits.specs.Read.{read_bits}
-use Rattle.bits.specs.declared.Read.{Read}
-use Rattle.bits.specs.declared.Read.TheVariants.{Number}
 use Rattle.bits.proofs.Numbers.{Bits, bits_n_high, bits_n_num, bits_n_split, length_bits_n}
 use Rattle.bits.proofs.Bytes.{Holds, holds_join, bits_to_is}
 use Rattle.bits.proofs.Reading.{number_is, number_lt, number_stands}
 use Rattle.elements.specs.Arguments.{flag}
 use Rattle.inner.specs.declared.values.DateTime.{DateTime}
 use Rattle.inner.specs.declared.values.Header.{Header}
-use Rattle.inner.specs.declared.values.HeaderRead.TheVariants as header
 use Rattle.inner.specs.Headers.{presence, date_time_bits, reference_fits, header_fits, header_bits, header_at}
 use Rattle.elements.proofs.Standing.{Stands}
 use Rattle.inner.proofs.AreBits.{header_are_bits}
 use Rattle.inner.proofs.HeaderLaws.{both_present, header_reads}
 use Rattle.inner.proofs.HeaderNumber.{date_said, dated_fits, reference_fits_is, front_with, front_without, header_plain, header_acknowledged}
 use Rattle.inner.proofs.HeaderWritten.{length_header}
+use Rattle.std.specs.Prelude.{Ok, Option, Some}
 
 -- ---- as `header_from` has it
 
@@ -118,7 +116,7 @@ flags (suc (suc zero)) h = (refl, refl)
 flags (suc (suc (suc zero))) h = (refl, refl)
 flags (suc (suc (suc (suc b)))) h = absurd (omega arith)
 
-module _ (l : List ℕ) (at p next n front v : ℕ) (bits : Bits l) (first : read_bits l at 8 ≡ Number front p) (second : read_bits l p n ≡ Number v next) (width : n ≡ 33 + 6 * (front / 64 / 2) + front / 64 % 2) where
+module _ (l : List ℕ) (at p next n front v : ℕ) (bits : Bits l) (first : read_bits l at 8 ≡ Some (front, p)) (second : read_bits l p n ≡ Some (v, next)) (width : n ≡ 33 + 6 * (front / 64 / 2) + front / 64 % 2) where
   front_small : front < 256
   front_small = number_lt l at 8 front p bits first
 
@@ -126,7 +124,7 @@ module _ (l : List ℕ) (at p next n front v : ℕ) (bits : Bits l) (first : rea
   rest_small = number_lt l p n v next bits second
 
   module _ (x : Header) (fits : header_fits x ≡ true) (w : ℕ) (r : x.referenced ≡ leb 2 (front / 64)) (a : x.acknowledged ≡ eqb (front / 64 % 2) 1) (i : x.identification ≡ front % 64) (rest : x.reference * 8589934592 + date_number x.dated ≡ w) (same : v ≡ w * 2 ^ flag x.acknowledged) where
-    header_is : header.Got x next ≡ header_at l at
+    header_is : Ok (x, next) ≡ header_at l at
     header_is =
         let s = front_small in
         let b = both_present (front / 64) (omega arith) in
@@ -146,7 +144,7 @@ module _ (l : List ℕ) (at p next n front v : ℕ) (bits : Bits l) (first : rea
         sym (header_reads l at next x (record { fits = fits; holds = rw t k; place = z }))
 
 -- the two ways that find a header
-module _ (s : List ℕ) (e at p next n front v : ℕ) (f g : Read) (hf : f ≡ read_bits (bits_to s e) at 8) (gf : f ≡ Number front p) (hg : g ≡ read_bits (bits_to s e) p n) (gg : g ≡ Number v next) (width : n ≡ 33 + 6 * (front / 64 / 2) + front / 64 % 2) where
+module _ (s : List ℕ) (e at p next n front v : ℕ) (f g : Option (ℕ × ℕ)) (hf : f ≡ read_bits (bits_to s e) at 8) (gf : f ≡ Some (front, p)) (hg : g ≡ read_bits (bits_to s e) p n) (gg : g ≡ Some (v, next)) (width : n ≡ 33 + 6 * (front / 64 / 2) + front / 64 % 2) where
   small : (front < 256) × (v < 2 ^ n)
   small = (number_lt (bits_to s e) at 8 front p (bits_to_is s e) (sym hf ∙ gf), number_lt (bits_to s e) p n v next (bits_to_is s e) (sym hg ∙ gg))
 
@@ -164,16 +162,16 @@ module _ (s : List ℕ) (e at p next n front v : ℕ) (f g : Read) (hf : f ≡ r
       (b.0, omega (arith, b.1, m))
 
   module _ (x : Header) (w : ℕ) (parts : (x.referenced ≡ leb 2 (front / 64)) × (x.acknowledged ≡ eqb (front / 64 % 2) 1) × (x.identification ≡ front % 64) × (x.reference * 8589934592 + date_number x.dated ≡ w)) (b : Bool) (hb : b ≡ header_fits x) (tb : b ≡ true) where
-    found : v ≡ w * 2 ^ flag x.acknowledged → header.Got x next ≡ header_at (bits_to s e) at
+    found : v ≡ w * 2 ^ flag x.acknowledged → Ok (x, next) ≡ header_at (bits_to s e) at
     found same = header_is (bits_to s e) at p next n front v (bits_to_is s e) (sym hf ∙ gf) (sym hg ∙ gg) width x
         (sym hb ∙ tb) w parts.0 parts.1 parts.2 parts.3 same
 
-    pub found_acknowledged : front / 64 % 2 ≡ 1 → (v % 2 ≡ 1 → ⊥) → w ≡ v / 2 → header.Got x next ≡ header_at (bits_to s e) at
+    pub found_acknowledged : front / 64 % 2 ≡ 1 → (v % 2 ≡ 1 → ⊥) → w ≡ v / 2 → Ok (x, next) ≡ header_at (bits_to s e) at
     found_acknowledged t o q =
         let k : flag x.acknowledged ≡ 1 = rw (parts.1, t) in
         found (rw k (omega arith))
 
-    pub found_plain : (front / 64 % 2 ≡ 1 → ⊥) → w ≡ v → header.Got x next ≡ header_at (bits_to s e) at
+    pub found_plain : (front / 64 % 2 ≡ 1 → ⊥) → w ≡ v → Ok (x, next) ≡ header_at (bits_to s e) at
     found_plain t q =
         let z : front / 64 % 2 ≡ 0 = omega arith in
         let k : flag x.acknowledged ≡ 0 = rw (parts.1, z) in

@@ -12,7 +12,6 @@ use Rattle.fields.specs.Encodings.{whole_bits, whole_fits}
 use Rattle.fields.proofs.Writers.{length_whole}
 use Rattle.elements.specs.Arguments.{flag, time_fits, time_bits}
 use Rattle.elements.specs.Writing.{Piece, whole, pieces_fit, pieces_bits, time_pieces}
-use Rattle.elements.specs.declared.values.Size.TheVariants as size
 use Rattle.elements.proofs.Written.{bits_append, time_bits_is}
 use Rattle.elements.proofs.Fitting.{time_fit}
 use Rattle.elements.proofs.Standing.{both_hold}
@@ -21,6 +20,7 @@ use Rattle.inner.specs.declared.values.Header.{Header}
 use Rattle.inner.specs.Headers.{presence, date_time_fits, date_time_bits, reference_fits, reference_bits, acknowledgement_bits, header_fits, header_bits}
 use Rattle.inner.specs.Writing.{date_time_pieces, reference_pieces, acknowledgement_pieces, header_pieces}
 use Rattle.inner.proofs.HeaderLaws.{presence_fits}
+use Rattle.std.specs.Prelude.{None, Some}
 
 -- ---- the bits
 
@@ -141,10 +141,10 @@ module _ (x : Header) where
 
 module _ (x : Header) (ok : Bool) (h : ok ≡ header_fits x) where
   pub header_measured : (f g : ℕ) → ok ≡ true → f ≡ flag x.referenced → g ≡ flag x.acknowledged
-      → size.Bits (41 + (6 * f + g)) ≡ cond (header_fits x) (size.Bits (length (header_bits x))) size.Shape
+      → Some (41 + (6 * f + g)) ≡ cond (header_fits x) (Some (length (header_bits x))) None
   header_measured f g t p q =
       let n : 41 + (6 * f + g) ≡ length (header_bits x) = let l = length_header x in omega arith in
       rw (← h, t, n)
 
-  pub header_shapeless : ok ≡ false → size.Shape ≡ cond (header_fits x) (size.Bits (length (header_bits x))) size.Shape
+  pub header_shapeless : ok ≡ false → None ≡ cond (header_fits x) (Some (length (header_bits x))) None
   header_shapeless t = rw (← h, t)

@@ -2,8 +2,8 @@ pub mod Runs
 pub mod HeaderPieces
 pub mod Filling
 pub mod Rows
-pub mod HeaderWays
 pub mod HeaderLaws
+pub mod HeaderWays
 pub mod HeaderWritten
 pub mod RowPieces
 pub mod MessageLaws

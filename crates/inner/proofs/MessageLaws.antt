@@ -9,32 +9,26 @@ use lib.ListN.{length, take, drop, replicate, length-take, length-append, length
 use lib.Seq.{length-take-le, take_at, drop_at}
 use lib.Dec.{eqb}
 use borrow.Author.Tests.{eqb-true, eq-eqb}
-use Rattle.words.proofs.Laws.{both_left, both_right}
+use Rattle.words.proofs.Laws.{both_left, both_right, ok_place, ok_value}
 use Rattle.bits.proofs.Numbers.{Bits, length_bits_n}
-use Rattle.fields.specs.Fields.{refused_at, whole_number, digits_in, onto, refusal_of}
+use Rattle.fields.specs.Fields.{Reading, refused_at, whole_number, digits_in, then}
 use Rattle.fields.specs.Encodings.{whole_bits, whole_fits}
-use Rattle.fields.specs.declared.Refusal.{Refusal}
 use Rattle.fields.specs.declared.Fault.TheVariants as fault
-use Rattle.fields.specs.declared.Field.TheVariants as field
 use Rattle.kinds.specs.declared.Direction.{Direction}
 use Rattle.inner.specs.declared.values.Header.{Header}
-use Rattle.inner.specs.declared.values.HeaderRead.{HeaderRead}
-use Rattle.inner.specs.declared.values.HeaderRead.TheVariants as header
-use Rattle.elements.specs.declared.values.Step.TheVariants as step
 use Rattle.elements.specs.declared.values.Element.{Element}
-use Rattle.inner.specs.declared.values.PlacesRead.{PlacesRead}
 use Rattle.inner.specs.declared.values.Message.{Message}
-use Rattle.inner.specs.declared.values.MessageRead.{MessageRead}
 use Rattle.elements.specs.OneElement.{bare, no_level, no_time, no_digits, plain, levels_unused, level_unused, time_unused, zeros, code_unused}
 use Rattle.inner.specs.Headers.{header_fits, header_bits, header_at}
-use Rattle.inner.specs.Places.{Row, these, refused, row_at, text_at, row_fits, row_bits, laid}
-use Rattle.inner.specs.Messages.{no_message, message_of, onto_header, onto_elements, body_at, message_at, is_message, message_text, empty, all_empty, message_fits, message_bits}
+use Rattle.inner.specs.Places.{row_at, text_at, row_fits, row_bits, laid}
+use Rattle.inner.specs.Messages.{message_of, count_at, body_at, message_at, message_text, empty, all_empty, message_fits, message_bits}
 use Rattle.elements.proofs.Standing.{Stands, stands_join, stands_split, stands_as, both_hold}
-use Rattle.elements.proofs.Steps.{never, onto_is}
+use Rattle.elements.proofs.Steps.{never, then_is}
 use Rattle.elements.proofs.Whole.{ranged, whole_reads, whole_stands, whole_below}
 use Rattle.elements.proofs.Unused.{element_is, plain_is}
 use Rattle.inner.proofs.HeaderLaws.{header_reads, header_stands}
 use Rattle.inner.proofs.Rows.{row_reads, row_text, RowIs, row_is}
+use Rattle.std.specs.Prelude.{Err, Ok}
 
 -- ---- places that are not used
 
@@ -120,7 +114,7 @@ module _ (d : Direction) (l : List ℕ) (at next : ℕ) (m : Message) (t : List 
       let five = fits.five in
       length-take-le m.count m.places (omega arith)
 
-  pub message_reads : message_at d l at ≡ is_message m next
+  pub message_reads : message_at d l at ≡ Ok (m, next)
   unfolding message_bits message_at body_at es
   message_reads =
       let h : List ℕ = header_bits m.header in
@@ -178,26 +172,18 @@ message_made d l at p q r next n h es t c sh sp sn sr =
     (stands_as l at next _ _ _ (rw (sh.fits, sn.fits, eq-eqb (length (es ++ o)) 5 f, sr.fits, z))
     (stands_join l at r next _ _ _ _ (stands_join l at q r _ _ _ _ (stands_join l at p q _ _ _ _ sh sp) sn) sr))
 
-header_is : {R : Type 0} (f : HeaderRead) (k : Header → ℕ → MessageRead) (o : MessageRead) → ((x : Header) (n : ℕ) → f ≡ header.Got x n → k x n ≡ o → R) → ((r : Refusal) → no_message r ≡ o → R) → onto_header f k ≡ o → R
-header_is (header.Got x n) k o go bad e = go x n refl e
-header_is (header.Refused r) k o go bad e = bad r e
-
 module _ (d : Direction) (l : List ℕ) (at next : ℕ) (m : Message) (bits : Bits l) where
   Goal : Type 0
   Goal = Stands l at (message_fits d m (message_text d l at m)) (message_bits d m (message_text d l at m)) next
 
-  no_message_is : {R : Type 0} (r : Refusal) → no_message r ≡ is_message m next → R
-  no_message_is r h = let g : step.Refused r ≡ step.Next next = ap (λ (x : MessageRead). x.step) h in never (cc)
-
   -- the elements were read
-  row_found : (x : Header) (p q r n : ℕ) → header_at l at ≡ header.Got x p → Stands l p true (whole_bits 0 1 0) q
-      → Stands l q (whole_fits 1 5 n) (whole_bits 1 5 n) r → (w : Row) → row_at d l r n ≡ w
-      → message_of x n (laid w) ≡ is_message m next → Goal
+  row_found : (x : Header) (p q r n : ℕ) → header_at l at ≡ Ok (x, p) → Stands l p true (whole_bits 0 1 0) q
+      → Stands l q (whole_fits 1 5 n) (whole_bits 1 5 n) r → (f : Reading (List Element)) → row_at d l r n ≡ f
+      → message_of x n (laid f) ≡ Ok (m, next) → Goal
   unfolding Goal message_text
-  row_found x p q r n eh sp sn (these es k) er h =
-      let i : made x n es ≡ m = ap (λ (z : MessageRead). z.message) h in
-      let g : step.Next k ≡ step.Next next = ap (λ (z : MessageRead). z.step) h in
-      let j : k ≡ next = cc in
+  row_found x p q r n eh sp sn (Ok (es, k)) er h =
+      let i : made x n es ≡ m = ok_value h in
+      let j : k ≡ next = ok_place h in
       let e = row_is d l n r k es bits er in
       let a = sp.place in
       let b = sn.place in
@@ -205,41 +191,31 @@ module _ (d : Direction) (l : List ℕ) (at next : ℕ) (m : Message) (bits : Bi
       let u = three_bits n in
       let v : p + 4 ≡ r = omega arith in
       rw (← i, eh, v, ← j) (message_made d l at p q r k n x es _ e.count (header_stands l at p x bits eh) sp sn e.stands)
-  row_found x p q r n eh sp sn (refused z) er h = no_message_is z h
+  row_found x p q r n eh sp sn (Err z) er h = never (cc)
 
-  count_found : (x : Header) (p q : ℕ) → header_at l at ≡ header.Got x p → Stands l p true (whole_bits 0 1 0) q
-      → onto no_message (whole_number l q 1 5) (λ (n r : ℕ). message_of x n (laid (row_at d l r n))) ≡ is_message m next
-      → Goal
-  count_found x p q eh sp h =
-      onto_is no_message (whole_number l q 1 5) (λ (n r : ℕ). message_of x n (laid (row_at d l r n))) (is_message m next)
-      (λ (n r : ℕ) (e : whole_number l q 1 5 ≡ field.Value n r) (g : message_of x n (laid (row_at d l r n)) ≡ is_message m next).
-      row_found x p q r n eh sp (whole_stands l q 1 5 n r bits e) (row_at d l r n) refl g)
-      no_message_is
-      h
+  count_found : (x : Header) (p c q n r : ℕ) → header_at l at ≡ Ok (x, p) → whole_number l p 0 1 ≡ Ok (c, q) → (t : Bool) → eqb c 0 ≡ t
+      → cond {A = Reading ℕ} t (whole_number l q 1 5) (refused_at p fault.NotCarried) ≡ Ok (n, r)
+      → message_of x n (laid (row_at d l r n)) ≡ Ok (m, next) → Goal
+  count_found x p c q n r eh ec true z en h = row_found x p q r n eh
+      (stands_as l p q _ _ _ refl (rw (eqb-true c 0 z) at (whole_stands l p 0 1 c q bits ec))) (whole_stands l q 1 5 n r bits en)
+      (row_at d l r n) refl h
+  count_found x p c q n r eh ec false z en h = never (cc)
 
-  body_found : (x : Header) (p c q : ℕ) → header_at l at ≡ header.Got x p → whole_number l p 0 1 ≡ field.Value c q
-      → (t : Bool) → eqb c 0 ≡ t
-      → cond t (onto no_message (whole_number l q 1 5) (λ (n r : ℕ). message_of x n (laid (row_at d l r n)))) (no_message (refusal_of (refused_at p fault.NotCarried))) ≡ is_message m next
-      → Goal
-  body_found x p c q eh ec true z h = count_found x p q eh
-      (stands_as l p q _ _ _ refl (rw (eqb-true c 0 z) at (whole_stands l p 0 1 c q bits ec))) h
-  body_found x p c q eh ec false z h = no_message_is _ h
-
-  pub message_stands : message_at d l at ≡ is_message m next
+  pub message_stands : message_at d l at ≡ Ok (m, next)
       → Stands l at (message_fits d m (message_text d l at m)) (message_bits d m (message_text d l at m)) next
   unfolding message_at body_at Goal
   message_stands h =
-      header_is (header_at l at) (body_at d l) (is_message m next)
-      (λ (x : Header) (p : ℕ) (eh : header_at l at ≡ header.Got x p) (g : body_at d l x p ≡ is_message m next).
-      onto_is no_message (whole_number l p 0 1) _ (is_message m next)
-      (λ (c q : ℕ) (ec : whole_number l p 0 1 ≡ field.Value c q) (z : _). body_found x p c q eh ec (eqb c 0) refl z)
-      no_message_is
+      then_is (header_at l at) _ (m, next)
+      (λ (x : Header) (p : ℕ) (eh : header_at l at ≡ Ok (x, p)) (g : _). then_is (count_at l p) _ (m, next)
+      (λ (n r : ℕ) (en : count_at l p ≡ Ok (n, r)) (z : message_of x n (laid (row_at d l r n)) ≡ Ok (m, next)).
+      then_is (whole_number l p 0 1) _ (n, r)
+      (λ (c q : ℕ) (ec : whole_number l p 0 1 ≡ Ok (c, q)) (y : _). count_found x p c q n r eh ec (eqb c 0) refl y z)
+      en)
       g)
-      no_message_is
       h
 
 -- document 01, refusal 16: constrained data marked present, before the count of elements is looked at
-pub constrained : (d : Direction) (l : List ℕ) (x : Header) (at next : ℕ) → whole_number l at 0 1 ≡ field.Value 1 next
-    → body_at d l x at ≡ no_message (refusal_of (refused_at at fault.NotCarried))
+pub constrained : (d : Direction) (l : List ℕ) (x : Header) (at next : ℕ) → whole_number l at 0 1 ≡ Ok (1, next)
+    → body_at d l x at ≡ refused_at at fault.NotCarried
 unfolding body_at
 constrained d l x at next e = rw e

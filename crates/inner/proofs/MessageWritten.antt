@@ -12,8 +12,6 @@ use borrow.Author.Tests.{eq-eqb, le-leb, lt-leb, leb-true, le-ltb, lt-ltb}
 use Rattle.words.proofs.Laws.{both_left, both_right}
 use Rattle.bits.specs.Bits.{bits_n, bits_to}
 use Rattle.bits.specs.Put.{Left, left, put_bits, put_number}
-use Rattle.bits.specs.declared.Put.{Put}
-use Rattle.bits.specs.declared.Put.TheVariants.{Next, Full}
 use Rattle.bits.proofs.Numbers.{length_bits_n}
 use Rattle.bits.proofs.Bytes.{length_to}
 use Rattle.bits.proofs.Putting.{put_append, put_fits, put_if_yes, length_put}
@@ -21,15 +19,12 @@ use Rattle.fields.specs.Encodings.{whole_fits}
 use Rattle.fields.proofs.Writers.{as_number}
 use Rattle.kinds.specs.declared.Direction.{Direction}
 use Rattle.elements.specs.declared.values.Element.{Element}
-use Rattle.elements.specs.declared.values.Size.{Size}
-use Rattle.elements.specs.declared.values.Size.TheVariants as size
 use Rattle.elements.specs.OneElement.{element_fits, element_bits}
 use Rattle.elements.specs.Writing.{whole, put_pieces, pieces_fit, pieces_bits}
 use Rattle.elements.proofs.Pieces.{pieces_left}
 use Rattle.elements.proofs.Written.{bits_append}
 use Rattle.elements.proofs.Whole.{whole_below}
 use Rattle.inner.specs.declared.values.Message.{Message}
-use Rattle.inner.specs.declared.values.MessageWritten.TheVariants as written
 use Rattle.inner.specs.Headers.{header_fits, header_bits}
 use Rattle.inner.specs.Places.{row_fits, row_bits}
 use Rattle.inner.specs.Messages.{all_empty, message_fits, message_bits, bits_most, room_least, message_carried, padding, padded, done, write_message}
@@ -39,6 +34,9 @@ use Rattle.inner.proofs.HeaderWritten.{bits_cons, bits_none, header_bits_is, hea
 use Rattle.inner.proofs.HeaderPieces.{flag_most}
 use Rattle.inner.proofs.RowPieces.{element_most, element_most_is, sized, sized_yes, sized_no, row_bits_is, row_fit}
 use Rattle.inner.proofs.MessageLaws.{fits_of, one_bit, three_bits}
+use Rattle.std.specs.Prelude.{Err, None, Ok, Option, Some}
+use Rattle.words.specs.declared.Unwritten.TheVariants.{Room}
+use Rattle.words.specs.declared.Unwritten.TheVariants.{Shape}
 
 -- ---- how many bits there are at most
 
@@ -68,16 +66,16 @@ module _ (d : Direction) (m : Message) (t : List ℕ) where
 
   -- ---- measured, as the code does it
 
-  module _ (r : Size) (k : r ≡ sized (header_fits m.header) (header_bits m.header)) where
-    pub no_header : r ≡ size.Shape → size.Shape ≡ sized (message_carried d m t) (message_bits d m t)
+  module _ (r : Option ℕ) (k : r ≡ sized (header_fits m.header) (header_bits m.header)) where
+    pub no_header : r ≡ None → None ≡ sized (message_carried d m t) (message_bits d m t)
     unfolding message_fits
     no_header q = rw (sized_no (header_fits m.header) (header_bits m.header) (sym q ∙ k))
 
-    module _ (a : ℕ) (q : r ≡ size.Bits a) (c : Bool) (kc : c ≡ whole_fits 1 5 m.count) where
+    module _ (a : ℕ) (q : r ≡ Some a) (c : Bool) (kc : c ≡ whole_fits 1 5 m.count) where
       header_right : (header_fits m.header ≡ true) × (a ≡ length (header_bits m.header))
       header_right = sized_yes (header_fits m.header) (header_bits m.header) a (sym q ∙ k)
 
-      pub no_count : not c ≡ true → size.Shape ≡ sized (message_carried d m t) (message_bits d m t)
+      pub no_count : not c ≡ true → None ≡ sized (message_carried d m t) (message_bits d m t)
       unfolding message_fits
       no_count p = rw (header_right.0, no c (whole_fits 1 5 m.count) kc p)
 
@@ -85,8 +83,8 @@ module _ (d : Direction) (m : Message) (t : List ℕ) where
         pub count_few : m.count ≤ 5
         count_few = whole_below 1 5 m.count (yes c (whole_fits 1 5 m.count) kc p)
 
-        module _ (five : length m.places ≡ 5) (s : Size) (ks : s ≡ sized (row_fits d (take m.count m.places) t) (row_bits d (take m.count m.places) t)) where
-          pub no_row : s ≡ size.Shape → size.Shape ≡ sized (message_carried d m t) (message_bits d m t)
+        module _ (five : length m.places ≡ 5) (s : Option ℕ) (ks : s ≡ sized (row_fits d (take m.count m.places) t) (row_bits d (take m.count m.places) t)) where
+          pub no_row : s ≡ None → None ≡ sized (message_carried d m t) (message_bits d m t)
           unfolding message_fits
           no_row z = rw (
             header_right.0,
@@ -96,7 +94,7 @@ module _ (d : Direction) (m : Message) (t : List ℕ) where
                 (sym z ∙ ks),
           )
 
-          module _ (b : ℕ) (z : s ≡ size.Bits b) where
+          module _ (b : ℕ) (z : s ≡ Some b) where
             row_right : (row_fits d (take m.count m.places) t ≡ true) × (b ≡ length (row_bits d (take m.count m.places) t))
             row_right = sized_yes (row_fits d (take m.count m.places) t) (row_bits d (take m.count m.places) t) b (sym z ∙ ks)
 
@@ -110,7 +108,7 @@ module _ (d : Direction) (m : Message) (t : List ℕ) where
                 (omega arith, omega arith)
 
             module _ (u : Bool) (ku : u ≡ all_empty (drop m.count m.places)) where
-              pub no_rest : not u ≡ true → size.Shape ≡ sized (message_carried d m t) (message_bits d m t)
+              pub no_rest : not u ≡ true → None ≡ sized (message_carried d m t) (message_bits d m t)
               unfolding message_fits
               no_rest w = rw (
                 header_right.0,
@@ -136,10 +134,10 @@ module _ (d : Direction) (m : Message) (t : List ℕ) where
                 total : a + 4 + b ≡ length (message_bits d m t)
                 total = let e = header_right.1 in let f = row_right.1 in let g = length_message in omega arith
 
-                pub too_long : bits_most < a + 4 + b → size.Shape ≡ sized (message_carried d m t) (message_bits d m t)
+                pub too_long : bits_most < a + 4 + b → None ≡ sized (message_carried d m t) (message_bits d m t)
                 too_long o = let e = total in rw (all_right, lt-leb (length (message_bits d m t)) bits_most (omega arith))
 
-                pub measured_message : a + 4 + b ≤ bits_most → size.Bits (a + 4 + b) ≡ sized (message_carried d m t) (message_bits d m t)
+                pub measured_message : a + 4 + b ≤ bits_most → Some (a + 4 + b) ≡ sized (message_carried d m t) (message_bits d m t)
                 measured_message o =
                     let e = total in
                     rw (all_right, le-leb (length (message_bits d m t)) bits_most (omega arith), total)
@@ -160,26 +158,26 @@ module _ (d : Direction) (m : Message) (t : List ℕ) where
       (row_fit d (take m.count m.places) t f.row))
 
   -- as the code writes them
-  module _ (s : List ℕ) (e at : ℕ) (u : List ℕ) (a : Put) (k : left a u ≡ put_pieces s e at (header_pieces m.header)) where
+  module _ (s : List ℕ) (e at : ℕ) (u : List ℕ) (a : Option ℕ) (k : left a u ≡ put_pieces s e at (header_pieces m.header)) where
     pieces_are : put_pieces s e at (header_pieces m.header ++
         ((whole 0 1 0 ∷ whole 1 5 m.count ∷ []) ++ row_pieces d (take m.count m.places) t)) ≡ put_pieces s e
         at (message_pieces d m t)
     unfolding message_pieces
     pieces_are = refl
 
-    pub message_first : a ≡ Full → left Full u ≡ put_pieces s e at (message_pieces d m t)
+    pub message_first : a ≡ None → left None u ≡ put_pieces s e at (message_pieces d m t)
     message_first q = run_full s e at (header_pieces m.header) _ _ pieces_are u a k q
 
-    module _ (p : ℕ) (q : a ≡ Next p) (v : List ℕ) (b : Put) (l : left b v ≡ put_pieces u e p (whole 0 1 0 ∷ whole 1 5 m.count ∷ [])) where
+    module _ (p : ℕ) (q : a ≡ Some p) (v : List ℕ) (b : Option ℕ) (l : left b v ≡ put_pieces u e p (whole 0 1 0 ∷ whole 1 5 m.count ∷ [])) where
       after_header : put_pieces u e p
           ((whole 0 1 0 ∷ whole 1 5 m.count ∷ []) ++ row_pieces d (take m.count m.places) t) ≡ put_pieces s e at
           (message_pieces d m t)
       after_header = run_turn s e at (header_pieces m.header) _ _ pieces_are u a k p q
 
-      pub message_second : b ≡ Full → left Full v ≡ put_pieces s e at (message_pieces d m t)
+      pub message_second : b ≡ None → left None v ≡ put_pieces s e at (message_pieces d m t)
       message_second r = run_full u e p (whole 0 1 0 ∷ whole 1 5 m.count ∷ []) _ _ after_header v b l r
 
-      pub message_third : (n : ℕ) → b ≡ Next n → (z : List ℕ) (c : Put)
+      pub message_third : (n : ℕ) → b ≡ Some n → (z : List ℕ) (c : Option ℕ)
           → left c z ≡ put_pieces v e n (row_pieces d (take m.count m.places) t)
           → left c z ≡ put_pieces s e at (message_pieces d m t)
       message_third n r z c w = w ∙ run_turn u e p (whole 0 1 0 ∷ whole 1 5 m.count ∷ []) _ _ after_header v b l n r
@@ -190,16 +188,16 @@ room_for : (s : List ℕ) (n : ℕ) → room_least ≤ length s → n ≤ 8 * ro
 room_for s n h g = rw (length_to s (8 * room_least)) (omega arith)
 
 module _ (d : Direction) (m : Message) (t s : List ℕ) where
-  pub too_small : length s < room_least → done written.Room s ≡ write_message d m t s
+  pub too_small : length s < room_least → done (Err Room) s ≡ write_message d m t s
   unfolding write_message
   too_small h = rw (lt-ltb (length s) room_least h)
 
-  module _ (h : room_least ≤ length s) (r : Size) (k : r ≡ sized (message_carried d m t) (message_bits d m t)) where
-    pub not_carried : r ≡ size.Shape → done written.Shape s ≡ write_message d m t s
+  module _ (h : room_least ≤ length s) (r : Option ℕ) (k : r ≡ sized (message_carried d m t) (message_bits d m t)) where
+    pub not_carried : r ≡ None → done (Err Shape) s ≡ write_message d m t s
     unfolding write_message
     not_carried q = rw (le-ltb (length s) room_least h, sized_no (message_carried d m t) (message_bits d m t) (sym q ∙ k))
 
-    module _ (n : ℕ) (q : r ≡ size.Bits n) where
+    module _ (n : ℕ) (q : r ≡ Some n) where
       carried : (message_carried d m t ≡ true) × (n ≡ length (message_bits d m t))
       carried = sized_yes (message_carried d m t) (message_bits d m t) n (sym q ∙ k)
 
@@ -213,22 +211,22 @@ module _ (d : Direction) (m : Message) (t s : List ℕ) where
       pub written_count : m.count ≤ 5
       written_count = whole_below 1 5 m.count (fits_of d m t fits).count
 
-      pub written_out : (z y : List ℕ) (a b : Put) (w : ℕ)
+      pub written_out : (z y : List ℕ) (a b : Option ℕ) (w : ℕ)
           → left a z ≡ put_pieces s (8 * room_least) 0 (message_pieces d m t) → w ≡ padding n
-          → left b y ≡ put_number z (8 * room_least) n w 0 → done (written.Bits n) y ≡ write_message d m t s
+          → left b y ≡ put_number z (8 * room_least) n w 0 → done (Ok n) y ≡ write_message d m t s
       unfolding write_message padded
       written_out z y a b w f i g =
           let bs : List ℕ = message_bits d m t in
           let e = carried.1 in
           let len = within in
-          let p : put_pieces s (8 * room_least) 0 (message_pieces d m t) ≡ left (Next (0 + length bs)) (put_bits s 0 bs) =
+          let p : put_pieces s (8 * room_least) 0 (message_pieces d m t) ≡ left (Some (0 + length bs)) (put_bits s 0 bs) =
           rw (message_bits_is d m t) at (pieces_left (message_pieces d m t) s (8 * room_least) 0 (message_fit d m t fits)
           (rw (message_bits_is d m t) (room_for s (0 + length bs) h (omega arith)))) in
           let zz : z ≡ put_bits s 0 bs = ap (λ (l : Left). l.bytes) (f ∙ p) in
           let j : w ≡ padding (length bs) = i ∙ ap padding e in
           let x = length_bits_n w 0 in
           let lz : length z ≡ length s = ap length zz ∙ length_put bs s 0 in
-          let o : put_number z (8 * room_least) n w 0 ≡ left (Next (n + length (bits_n w 0))) (put_bits z n (bits_n w 0)) =
+          let o : put_number z (8 * room_least) n w 0 ≡ left (Some (n + length (bits_n w 0))) (put_bits z n (bits_n w 0)) =
           as_number z (8 * room_least) n w 0 true (bits_n w 0) (omega arith) (pow_pos w) refl refl ∙ put_if_yes true z
           (8 * room_least) n (bits_n w 0) refl ∙ put_fits z (8 * room_least) n (bits_n w 0)
           (room_for z (n + length (bits_n w 0)) (omega arith) (omega arith)) in

@@ -13,16 +13,12 @@ use native.Mathlib.Decide.{dec_lt}
 use borrow.Author.Tests.{eq-eqb, ne_eqb}
 use Rattle.words.proofs.Laws.{both_left, both_right}
 use Rattle.bits.specs.Put.{Left, left}
-use Rattle.bits.specs.declared.Put.{Put}
-use Rattle.bits.specs.declared.Put.TheVariants.{Next, Full}
 use Rattle.kinds.specs.declared.Direction.{Direction}
 use Rattle.elements.specs.declared.values.Element.{Element}
 use Rattle.elements.specs.Writing.{put_pieces, pieces_fit, pieces_bits, element_pieces}
 use Rattle.elements.specs.OneElement.{element_fits, element_bits, last_of}
 use Rattle.kinds.specs.Elements.{kind_of}
 use Rattle.kinds.specs.declared.Direction.TheVariants.{Downlink, Uplink}
-use Rattle.elements.specs.declared.values.Size.{Size}
-use Rattle.elements.specs.declared.values.Size.TheVariants as size
 use Rattle.fields.specs.Fields.{digits_in, width_of}
 use Rattle.elements.proofs.Steps.{never}
 use Rattle.elements.proofs.Measured.{length_element, argument_small}
@@ -33,6 +29,7 @@ use Rattle.inner.specs.Places.{row_fits, row_bits}
 use Rattle.inner.specs.Writing.{row_pieces}
 use Rattle.inner.proofs.Runs.{run_turn, run_full}
 use Rattle.inner.proofs.HeaderWritten.{bits_none, fit_none, fit_join}
+use Rattle.std.specs.Prelude.{None, Option, Some}
 
 -- ---- a part of the text
 
@@ -97,7 +94,7 @@ row_nil d t = refl
 
 module _ (d : Direction) (ps : List Element) (n : ℕ) (t s : List ℕ) (e i from p : ℕ) (z : Left) (inv : put_pieces s e p (row_pieces d (drop i (take n ps)) (drop from t)) ≡ z) where
   -- with the next of them, x
-  module _ (x : Element) (g : drop i (take n ps) ≡ x ∷ drop (suc i) (take n ps)) (to : ℕ) (f : from ≤ length t) (m : to ≡ min (from + x.characters) (length t)) (u : List ℕ) (a : Put) (k : left a u ≡ put_pieces s e p (element_pieces d x (part from to t))) where
+  module _ (x : Element) (g : drop i (take n ps) ≡ x ∷ drop (suc i) (take n ps)) (to : ℕ) (f : from ≤ length t) (m : to ≡ min (from + x.characters) (length t)) (u : List ℕ) (a : Option ℕ) (k : left a u ≡ put_pieces s e p (element_pieces d x (part from to t))) where
     split : put_pieces s e p (element_pieces d x (part from to t) ++ row_pieces d (drop (suc i) (take n ps)) (drop to t)) ≡ z
     split =
         let c : ℕ = x.characters in
@@ -106,13 +103,13 @@ module _ (d : Direction) (ps : List Element) (n : ℕ) (t s : List ℕ) (e i fro
         (g, row_cons, part_is t from to c f m, part_rest t from to c f m) in
         ap (put_pieces s e p) (sym q) ∙ inv
 
-    pub row_turn : (q : ℕ) → a ≡ Next q → put_pieces u e q (row_pieces d (drop (i + 1) (take n ps)) (drop to t)) ≡ z
+    pub row_turn : (q : ℕ) → a ≡ Some q → put_pieces u e q (row_pieces d (drop (i + 1) (take n ps)) (drop to t)) ≡ z
     row_turn q r = rw add-one (run_turn s e p (element_pieces d x (part from to t)) _ z split u a k q r)
 
-    pub row_full : a ≡ Full → left Full u ≡ z
+    pub row_full : a ≡ None → left None u ≡ z
     row_full r = run_full s e p (element_pieces d x (part from to t)) _ z split u a k r
 
-  pub row_done : n ≤ i → left (Next p) s ≡ z
+  pub row_done : n ≤ i → left (Some p) s ≡ z
   row_done h = rw (none_left ps n i h, row_nil, pieces_nil) at inv
 
 -- ---- measured
@@ -156,20 +153,20 @@ pub record Measured (d : Direction) (ps : List Element) (n : ℕ) (t : List ℕ)
 pub measured_start : (d : Direction) (ps : List Element) (n : ℕ) (t : List ℕ) → Measured d ps n t 0 0 0
 measured_start d ps n t = record { fits = refl; bits = omega arith; most = omega arith }
 
-abbrev pub sized : Bool → List ℕ → Size
-sized ok bs = cond ok (size.Bits (length bs)) size.Shape
+abbrev pub sized : Bool → List ℕ → Option ℕ
+sized ok bs = cond ok (Some (length bs)) None
 
-pub sized_yes : (ok : Bool) (bs : List ℕ) (k : ℕ) → size.Bits k ≡ sized ok bs → (ok ≡ true) × (k ≡ length bs)
+pub sized_yes : (ok : Bool) (bs : List ℕ) (k : ℕ) → Some k ≡ sized ok bs → (ok ≡ true) × (k ≡ length bs)
 sized_yes true bs k h = (refl, cc)
 sized_yes false bs k h = never (cc)
 
-pub sized_no : (ok : Bool) (bs : List ℕ) → size.Shape ≡ sized ok bs → ok ≡ false
+pub sized_no : (ok : Bool) (bs : List ℕ) → None ≡ sized ok bs → ok ≡ false
 sized_no true bs h = never (cc)
 sized_no false bs h = refl
 
 module _ (d : Direction) (ps : List Element) (n : ℕ) (t : List ℕ) (i from total : ℕ) (inv : Measured d ps n t i from total) where
   -- with the next of them, x
-  module _ (x : Element) (g : drop i (take n ps) ≡ x ∷ drop (suc i) (take n ps)) (to : ℕ) (f : from ≤ length t) (m : to ≡ min (from + x.characters) (length t)) (r : Size) (k : r ≡ sized (element_fits d x (part from to t)) (element_bits d x (part from to t))) where
+  module _ (x : Element) (g : drop i (take n ps) ≡ x ∷ drop (suc i) (take n ps)) (to : ℕ) (f : from ≤ length t) (m : to ≡ min (from + x.characters) (length t)) (r : Option ℕ) (k : r ≡ sized (element_fits d x (part from to t)) (element_bits d x (part from to t))) where
     next_fits : element_fits d x (part from to t) && row_fits d (drop (suc i) (take n ps)) (drop to t) ≡ row_fits d (take n ps) t
     next_fits = sym (rw (g, fits_cons, ← part_is t from to x.characters f m, ← part_rest t from to x.characters f m) refl) ∙ inv.fits
 
@@ -177,7 +174,7 @@ module _ (d : Direction) (ps : List Element) (n : ℕ) (t : List ℕ) (i from to
         (drop (suc i) (take n ps)) (drop to t)
     next_bits = rw (g, bits_cons, part_is t from to x.characters f m, part_rest t from to x.characters f m)
 
-    pub measured_turn : (c : ℕ) → r ≡ size.Bits c → Measured d ps n t (i + 1) to (total + c)
+    pub measured_turn : (c : ℕ) → r ≡ Some c → Measured d ps n t (i + 1) to (total + c)
     measured_turn c q =
         let y = sized_yes (element_fits d x (part from to t)) (element_bits d x (part from to t)) c (sym q ∙ k) in
         let w : total + c + length (row_bits d (drop (suc i) (take n ps)) (drop to t)) ≡ length (row_bits d (take n ps) t) =
@@ -191,13 +188,13 @@ module _ (d : Direction) (ps : List Element) (n : ℕ) (t : List ℕ) (i from to
           most = let a = inv.most in let b = element_most_is d x (part from to t) y.0 in let j = y.1 in omega arith;
         }
 
-    pub measured_bad : r ≡ size.Shape → size.Shape ≡ sized (row_fits d (take n ps) t) (row_bits d (take n ps) t)
+    pub measured_bad : r ≡ None → None ≡ sized (row_fits d (take n ps) t) (row_bits d (take n ps) t)
     measured_bad q =
         let y = sized_no (element_fits d x (part from to t)) (element_bits d x (part from to t)) (sym q ∙ k) in
         let w : false ≡ row_fits d (take n ps) t = rw y at next_fits in
         rw (← w)
 
-    pub measured_small : (c : ℕ) → r ≡ size.Bits c → c ≤ element_most
+    pub measured_small : (c : ℕ) → r ≡ Some c → c ≤ element_most
     measured_small c q =
         let y = sized_yes (element_fits d x (part from to t)) (element_bits d x (part from to t)) c (sym q ∙ k) in
         let b = element_most_is d x (part from to t) y.0 in
@@ -208,14 +205,14 @@ module _ (d : Direction) (ps : List Element) (n : ℕ) (t : List ℕ) (i from to
     whole_fits : eqb (length (drop from t)) 0 ≡ row_fits d (take n ps) t
     whole_fits = rw (none_left ps n i h, fits_nil) at inv.fits
 
-    pub measured_done : from ≡ length t → size.Bits total ≡ sized (row_fits d (take n ps) t) (row_bits d (take n ps) t)
+    pub measured_done : from ≡ length t → Some total ≡ sized (row_fits d (take n ps) t) (row_bits d (take n ps) t)
     measured_done f =
         let l = length-drop from t in
         let y : total + length (row_bits d [] (drop from t)) ≡ length (row_bits d (take n ps) t) = rw (none_left ps n i h) at inv.bits in
         let w : total ≡ length (row_bits d (take n ps) t) = let b = ap length (bits_nil d (drop from t)) in omega arith in
         rw (← whole_fits, eq-eqb (length (drop from t)) 0 (omega arith), ← w)
 
-    pub measured_over : from ≤ length t → (from ≡ length t → ⊥) → size.Shape ≡ sized (row_fits d (take n ps) t) (row_bits d (take n ps) t)
+    pub measured_over : from ≤ length t → (from ≡ length t → ⊥) → None ≡ sized (row_fits d (take n ps) t) (row_bits d (take n ps) t)
     measured_over g f =
         let l = length-drop from t in
         rw (← whole_fits, ne_eqb (length (drop from t)) 0 (λ (q : length (drop from t) ≡ 0). f (omega arith)))

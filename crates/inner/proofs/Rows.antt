@@ -7,25 +7,23 @@ use Prim.Native.Nat.{ℕ, zero, suc, ◌+◌, ◌-◌, ◌*◌}
 use native.Mathlib.Nat.{add-zero}
 use lib.ListN.{length, take, drop, take-append-drop}
 use lib.Seq.{take_at, drop_at}
+use Rattle.words.proofs.Laws.{ok_place, ok_value}
 use Rattle.bits.proofs.Numbers.{Bits}
-use Rattle.fields.specs.declared.Refusal.{Refusal}
 use Rattle.kinds.specs.declared.Direction.{Direction}
-use Rattle.elements.specs.declared.values.Step.{Step}
-use Rattle.elements.specs.declared.values.Step.TheVariants as step
 use Rattle.elements.specs.declared.values.Element.{Element}
-use Rattle.elements.specs.declared.values.ElementRead.{ElementRead}
-use Rattle.elements.specs.OneElement.{is_element, element_at, element_fits, element_bits, no_text_of, text_of}
-use Rattle.inner.specs.Places.{Row, these, refused, after, onto_row, onto_text, row_at, text_at, row_fits, row_bits}
+use Rattle.elements.specs.OneElement.{element_at, element_fits, element_bits, no_text_of, text_of}
+use Rattle.inner.specs.Places.{row_at, text_at, row_fits, row_bits}
 use Rattle.elements.proofs.Standing.{Stands, stands_join, stands_split, stands_nothing}
-use Rattle.elements.proofs.Steps.{never}
+use Rattle.elements.proofs.Steps.{then_is}
 use Rattle.elements.proofs.Texts.{length_characters}
 use Rattle.elements.proofs.Unused.{no_text}
 use Rattle.elements.proofs.Placed.{element_reads, element_text, element_stands}
+use Rattle.std.specs.Prelude.{Ok}
 
 pub row_reads : (d : Direction) (l : List ℕ) (es : List Element) (t : List ℕ) (at next : ℕ)
-    → Stands l at (row_fits d es t) (row_bits d es t) next → row_at d l at (length es) ≡ these es next
+    → Stands l at (row_fits d es t) (row_bits d es t) next → row_at d l at (length es) ≡ Ok (es, next)
 unfolding row_fits row_bits row_at
-row_reads d l [] t at next s = ap (these []) (sym (s.place ∙ add-zero at))
+row_reads d l [] t at next s = rw (s.place ∙ add-zero at)
 row_reads d l (e ∷ es) t at next s =
     let c : ℕ = e.characters in
     let p = stands_split l at next (element_fits d e (take c t)) (row_fits d es (drop c t)) (element_bits d e (take c t))
@@ -49,9 +47,6 @@ row_text d l (e ∷ es) t at next s =
 
 -- ---- what was read
 
-read_as : (r : ElementRead) (m : ℕ) → r.step ≡ step.Next m → r ≡ is_element r.element m
-read_as r m p = rw (← p)
-
 pub record RowIs (d : Direction) (l : List ℕ) (at n : ℕ) (es : List Element) (next : ℕ) : Type 0 where
   pub count : length es ≡ n
   pub stands : Stands l at (row_fits d es (text_at d l at n)) (row_bits d es (text_at d l at n)) next
@@ -61,15 +56,13 @@ unfolding row_fits row_bits text_at
 no_row d l at = record { count = refl; stands = stands_nothing l at true refl }
 
 -- an element before those that follow
-row_more : (d : Direction) (l : List ℕ) (at m k next : ℕ) (ys : List Element) → Bits l
-    → (element_at d l at).step ≡ step.Next m → RowIs d l m k ys next
-    → RowIs d l at (suc k) ((element_at d l at).element ∷ ys) next
+row_more : (d : Direction) (l : List ℕ) (at m k next : ℕ) (e : Element) (ys : List Element) → Bits l
+    → element_at d l at ≡ Ok (e, m) → RowIs d l m k ys next → RowIs d l at (suc k) (e ∷ ys) next
 unfolding row_fits row_bits text_at
-row_more d l at m k next ys b p r =
-    let e : Element = (element_at d l at).element in
+row_more d l at m k next e ys b p r =
     let t : List ℕ = text_of l e m in
     let n : length t ≡ e.characters = length_characters l (m - 7 * e.characters) e.characters in
-    let s = element_stands d l at m e b (read_as (element_at d l at) m p) in
+    let s = element_stands d l at m e b p in
     let a = take_at t (text_at d l m k) e.characters n in
     let z = drop_at t (text_at d l m k) e.characters n in
     record {
@@ -77,38 +70,19 @@ row_more d l at m k next ys b p r =
       stands = rw (p, a, z) (stands_join l at m next _ _ _ _ s r.stands);
     }
 
-elements_of : Row → List Element
-elements_of (these es n) = es
-elements_of (refused r) = []
-
-place_of : Row → ℕ
-place_of (these es n) = n
-place_of (refused r) = 0
-
-module _ (d : Direction) (l : List ℕ) (at k next : ℕ) (es : List Element) (b : Bits l) (more : (m n : ℕ) (ys : List Element) → row_at d l m k ≡ these ys n → RowIs d l m k ys n) where
-  then_row : (m : ℕ) → (element_at d l at).step ≡ step.Next m → (w : Row) → row_at d l m k ≡ w
-      → after ((element_at d l at).element ∷ []) w ≡ these es next → RowIs d l at (suc k) es next
-  unfolding elements_of place_of
-  then_row m p (these ys n) q h =
-      let i : (element_at d l at).element ∷ ys ≡ es = ap elements_of h in
-      let j : n ≡ next = ap place_of h in
-      rw (← i, ← j) (row_more d l at m k n ys b p (more m n ys q))
-  then_row m p (refused r) q h = never (cc)
-
-  row_step : (s : Step) → (element_at d l at).step ≡ s
-      → onto_row s (λ (m : ℕ). after ((element_at d l at).element ∷ []) (row_at d l m k)) ≡ these es next
-      → RowIs d l at (suc k) es next
-  row_step (step.Next m) p h = then_row m p (row_at d l m k) refl h
-  row_step (step.Refused r) p h = never (cc)
-
-pub row_is : (d : Direction) (l : List ℕ) (n at next : ℕ) (es : List Element) → Bits l → row_at d l at n ≡ these es next
+pub row_is : (d : Direction) (l : List ℕ) (n at next : ℕ) (es : List Element) → Bits l → row_at d l at n ≡ Ok (es, next)
     → RowIs d l at n es next
-unfolding row_at elements_of place_of
+unfolding row_at
 row_is d l zero at next es b h =
-    let i : [] ≡ es = ap elements_of h in
-    let j : at ≡ next = ap place_of h in
+    let i : [] ≡ es = ok_value h in
+    let j : at ≡ next = ok_place h in
     rw (← i, ← j) (no_row d l at)
 row_is d l (suc k) at next es b h =
-    row_step d l at k next es b
-    (λ (m n : ℕ) (ys : List Element) (q : row_at d l m k ≡ these ys n). row_is d l k m n ys b q)
-    (element_at d l at).step refl h
+    then_is (element_at d l at) _ (es, next)
+    (λ (e : Element) (m : ℕ) (p : element_at d l at ≡ Ok (e, m)) (z : _). then_is (row_at d l m k) _ (es, next)
+    (λ (ys : List Element) (n : ℕ) (q : row_at d l m k ≡ Ok (ys, n)) (w : Ok (e ∷ ys, n) ≡ Ok (es, next)).
+    let i : e ∷ ys ≡ es = ok_value w in
+    let j : n ≡ next = ok_place w in
+    rw (← i, ← j) (row_more d l at m k n e ys b p (row_is d l k m n ys b q)))
+    z)
+    h

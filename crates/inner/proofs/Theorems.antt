@@ -11,7 +11,7 @@ use lib.ListN.{length, take, drop, replicate, length-append, length-take, length
 use lib.Seq.{take_at, drop_at, take-length, take_all, take-take, take-append_seam}
 use lib.Dec.{eqb, leb, ltb}
 use borrow.Author.Tests.{eqb-true, eq-eqb, leb-true, ltb-false, le-leb, lt-leb, le-ltb}
-use Rattle.words.proofs.Laws.{both_left, both_right}
+use Rattle.words.proofs.Laws.{both_left, both_right, ok_place, ok_value}
 use Rattle.bits.specs.Bits.{bits_of, bits_to, run, bits_n}
 use Rattle.bits.specs.Put.{put_bits}
 use Rattle.bits.proofs.Numbers.{Bits, length_bits_n}
@@ -21,8 +21,6 @@ use Rattle.fields.specs.Encodings.{whole_fits}
 use Rattle.kinds.specs.declared.Direction.{Direction}
 use Rattle.kinds.specs.declared.ArgumentKind.TheVariants as kind
 use Rattle.elements.specs.declared.values.Element.{Element}
-use Rattle.elements.specs.declared.values.Step.{Step}
-use Rattle.elements.specs.declared.values.Step.TheVariants as step
 use Rattle.kinds.specs.Elements.{kind_of}
 use Rattle.elements.specs.Measuring.{index_width, largest_of}
 use Rattle.elements.specs.OneElement.{bare, last_of, argument_fits, element_fits, element_bits}
@@ -32,15 +30,17 @@ use Rattle.elements.proofs.Steps.{never}
 use Rattle.inner.specs.declared.values.Header.{Header}
 use Rattle.inner.specs.declared.values.Message.{Message}
 use Rattle.inner.specs.Headers.{header_fits, header_bits}
-use Rattle.inner.specs.declared.values.MessageOpened.{MessageOpened}
-use Rattle.inner.specs.declared.values.Opened.TheVariants as opened
-use Rattle.inner.specs.declared.values.MessageWritten.TheVariants as written
+use Rattle.inner.specs.declared.values.Unopened.TheVariants as unopened
 use Rattle.inner.specs.Places.{row_fits, row_bits}
-use Rattle.inner.specs.Messages.{exactly, is_message, message_text, message_fits, message_bits, bits_most, room_least, message_carried, padding, padded, Done, done, write_message, Opening, opening, not_opened, opened_as, open_message}
+use Rattle.inner.specs.Messages.{exactly, message_text, message_fits, message_bits, bits_most, room_least, message_carried, padding, padded, Done, done, write_message, Opening, opening, not_opened, opened_as, refused_by, open_message}
 use Rattle.inner.proofs.AreBits.{message_are_bits, padded_are_bits}
 use Rattle.inner.proofs.MessageLaws.{message_reads, message_text_is, message_stands, places_empty, fits_of}
 use Rattle.inner.proofs.Characters.{ReadIs, exactly_is}
 use Rattle.inner.proofs.MessageWritten.{header_most, row_most, length_message}
+use Rattle.std.specs.Prelude.{Err, Ok}
+use Rattle.fields.specs.Fields.{Reading, onto}
+use Rattle.words.specs.declared.Unwritten.TheVariants.{Room}
+use Rattle.words.specs.declared.Unwritten.TheVariants.{Shape}
 
 -- ---- what an answer says
 
@@ -51,60 +51,54 @@ record WrittenIs (d : Direction) (m : Message) (t out : List ℕ) (n : ℕ) : Ty
   count : n ≡ length (message_bits d m t)
   bytes : (write_message d m t out).bytes ≡ put_bits out 0 (padded (message_bits d m t))
 
-written_is : (d : Direction) (m : Message) (t out : List ℕ) (n : ℕ) → (write_message d m t out).answer ≡ written.Bits n
+written_is : (d : Direction) (m : Message) (t out : List ℕ) (n : ℕ) → (write_message d m t out).answer ≡ Ok n
     → WrittenIs d m t out n
 unfolding write_message
 written_is d m t out n h = go (ltb (length out) room_least) refl (message_carried d m t) refl h refl
   where
     both : Bool → Bool → Done
-    both a b = cond a (done written.Room out) (cond b
-        (done (written.Bits (length (message_bits d m t))) (put_bits out 0 (padded (message_bits d m t))))
-        (done written.Shape out))
+    both a b = cond a (done (Err Room) out) (cond b
+        (done (Ok (length (message_bits d m t))) (put_bits out 0 (padded (message_bits d m t))))
+        (done (Err Shape) out))
 
     go : (a : Bool) → ltb (length out) room_least ≡ a → (b : Bool) → message_carried d m t ≡ b
-        → (both a b).answer ≡ written.Bits n → (write_message d m t out).bytes ≡ (both a b).bytes → WrittenIs d m t out n
+        → (both a b).answer ≡ Ok n → (write_message d m t out).bytes ≡ (both a b).bytes → WrittenIs d m t out n
     go true p b q e f = never (cc)
     go false p false q e f = never (cc)
     go false p true q e f = record { room = ltb-false (length out) room_least p; carried = q; count = cc; bytes = f }
 
 -- the message was opened
-record OpenedIs (d : Direction) (s : List ℕ) (n : ℕ) (z : List ℕ) (k : ℕ) (m : Message) : Type 0 where
-  room : room_least ≤ length z
-  limit : n ≤ bits_most
-  lent : n ≤ 8 * length s
-  next : ℕ
-  read : ReadIs d (bits_to s n) m next
-  count : k ≡ length (message_text d (bits_to s n) 0 m)
-  text : (open_message d s n z).text ≡ message_text d (bits_to s n) 0 m ++ drop (length (message_text d (bits_to s n) 0 m)) z
+pub record OpenedIs (d : Direction) (s : List ℕ) (n : ℕ) (z : List ℕ) (k : ℕ) (m : Message) : Type 0 where
+  pub room : room_least ≤ length z
+  pub limit : n ≤ bits_most
+  pub lent : n ≤ 8 * length s
+  pub next : ℕ
+  pub read : ReadIs d (bits_to s n) m next
+  pub count : k ≡ length (message_text d (bits_to s n) 0 m)
+  pub text : (open_message d s n z).text ≡ message_text d (bits_to s n) 0 m ++ drop (length (message_text d (bits_to s n) 0 m)) z
 
-opened_is : (d : Direction) (s : List ℕ) (n : ℕ) (z : List ℕ) (k : ℕ) (m : Message) → (open_message d s n z).answer ≡ record { answer = opened.Characters k; message = m } → OpenedIs d s n z k m
+pub opened_is : (d : Direction) (s : List ℕ) (n : ℕ) (z : List ℕ) (k : ℕ) (m : Message) → (open_message d s n z).answer ≡ Ok (m, k) → OpenedIs d s n z k m
 unfolding open_message
 opened_is d s n z k m h = go (ltb (length z) room_least) refl (leb n bits_most && leb n (8 * length s)) refl
-    (exactly d (bits_to s n)).step refl h refl
+    (exactly d (bits_to s n)) refl h refl
   where
-    got : Message
-    got = (exactly d (bits_to s n)).message
+    tells : Bool → Bool → Reading Message → Opening
+    tells a b w = cond a (not_opened z unopened.Room)
+        (cond b (onto (refused_by z) w (λ (x : Message) (next : ℕ). opened_as z x (message_text d (bits_to s n) 0 x))) (not_opened z unopened.Shape))
 
-    tells : Bool → Bool → Step → Opening
-    tells a b w = cond a (opening (not_opened opened.Room) z)
-        (cond b (opened_as z got (message_text d (bits_to s n) 0 got) w) (opening (not_opened opened.Shape) z))
-
-    go : (a : Bool) → ltb (length z) room_least ≡ a → (b : Bool) → leb n bits_most && leb n (8 * length s) ≡ b → (w : Step) → (exactly d (bits_to s n)).step ≡ w → (tells a b w).answer ≡ record { answer = opened.Characters k; message = m } → (open_message d s n z).text ≡ (tells a b w).text → OpenedIs d s n z k m
-    go true p b q w i e f = let g : opened.Room ≡ opened.Characters k = ap (λ (x : MessageOpened). x.answer) e in never (cc)
-    go false p false q w i e f = let g : opened.Shape ≡ opened.Characters k = ap (λ (x : MessageOpened). x.answer) e in never (cc)
-    go false p true q (step.Refused r) i e f = let g : opened.Refused r ≡ opened.Characters k = ap
-        (λ (x : MessageOpened). x.answer) e in never (cc)
-    go false p true q (step.Next next) i e f =
-        let g : opened.Characters (length (message_text d (bits_to s n) 0 got)) ≡ opened.Characters k = ap
-        (λ (x : MessageOpened). x.answer) e in
-        let j : got ≡ m = ap (λ (x : MessageOpened). x.message) e in
+    go : (a : Bool) → ltb (length z) room_least ≡ a → (b : Bool) → leb n bits_most && leb n (8 * length s) ≡ b → (w : Reading Message) → exactly d (bits_to s n) ≡ w → (tells a b w).answer ≡ Ok (m, k) → (open_message d s n z).text ≡ (tells a b w).text → OpenedIs d s n z k m
+    go true p b q w i e f = never (cc)
+    go false p false q w i e f = never (cc)
+    go false p true q (Err r) i e f = never (cc)
+    go false p true q (Ok (x, next)) i e f =
+        let j : x ≡ m = ok_value e in
         record {
           room = ltb-false (length z) room_least p;
           limit = leb-true n bits_most (both_left (leb n bits_most) (leb n (8 * length s)) q);
           lent = leb-true n (8 * length s) (both_right (leb n bits_most) (leb n (8 * length s)) q);
           next = next;
-          read = rw (← j) (exactly_is d (bits_to s n) next i);
-          count = rw (← j) (cc);
+          read = rw (← j) (exactly_is d (bits_to s n) x next i);
+          count = rw (← j) (sym (ok_place e));
           text = rw (← j) f;
         }
 
@@ -131,7 +125,7 @@ module _ (d : Direction) (m : Message) (t : List ℕ) (h : message_fits d m t �
   alone : Stands (message_bits d m t) 0 (message_fits d m t) (message_bits d m t) (length (message_bits d m t))
   alone = record { fits = h; holds = take-length (message_bits d m t); place = omega arith }
 
-  read_alone : exactly d (message_bits d m t) ≡ is_message m (length (message_bits d m t))
+  read_alone : exactly d (message_bits d m t) ≡ Ok (m, length (message_bits d m t))
   unfolding exactly
   read_alone = rw (
     message_reads d (message_bits d m t) 0 (length (message_bits d m t)) m t alone,
@@ -145,7 +139,7 @@ module _ (d : Direction) (m : Message) (t : List ℕ) (h : message_fits d m t �
 -- ---- WRITE THEN READ: a message that was written is read back from the buffer, with its characters; whatever follows the characters stays
 
 module _ (d : Direction) (m : Message) (t out text : List ℕ) (n : ℕ) where
-  pub written_read : (write_message d m t out).answer ≡ written.Bits n → room_least ≤ length text → open_message d (write_message d m t out).bytes n text ≡ opening (record { answer = opened.Characters (length t); message = m }) (t ++ drop (length t) text)
+  pub written_read : (write_message d m t out).answer ≡ Ok n → room_least ≤ length text → open_message d (write_message d m t out).bytes n text ≡ opening (Ok (m, length t)) (t ++ drop (length t) text)
   unfolding open_message
   written_read h r =
       let w = written_is d m t out n h in
@@ -171,7 +165,7 @@ module _ (d : Direction) (m : Message) (t out text : List ℕ) (n : ℕ) where
 
 -- ---- READ THEN WRITE: a message that was read is written as the same bits
 
-module _ (d : Direction) (s : List ℕ) (n : ℕ) (text : List ℕ) (k : ℕ) (m : Message) (h : (open_message d s n text).answer ≡ record { answer = opened.Characters k; message = m }) where
+module _ (d : Direction) (s : List ℕ) (n : ℕ) (text : List ℕ) (k : ℕ) (m : Message) (h : (open_message d s n text).answer ≡ Ok (m, k)) where
   -- the characters in the text
   abbrev characters : List ℕ
   characters = take k (open_message d s n text).text
@@ -193,7 +187,7 @@ module _ (d : Direction) (s : List ℕ) (n : ℕ) (text : List ℕ) (k : ℕ) (m
       sym stands.holds ∙ take_all (length (message_bits d m characters)) (bits_to s n) (omega arith)
 
   pub read_written : (out : List ℕ) → room_least ≤ length out
-      → write_message d m characters out ≡ done (written.Bits n) (put_bits out 0 (padded (bits_to s n)))
+      → write_message d m characters out ≡ done (Ok n) (put_bits out 0 (padded (bits_to s n)))
   unfolding write_message
   read_written out r =
       let o = opened_is d s n text k m h in
@@ -205,31 +199,31 @@ module _ (d : Direction) (s : List ℕ) (n : ℕ) (text : List ℕ) (k : ℕ) (m
 -- ---- A REFUSED CALL LEAVES EVERY BYTE
 
 pub refused_leaves : (d : Direction) (m : Message) (t out : List ℕ)
-    → ((n : ℕ) → (write_message d m t out).answer ≡ written.Bits n → ⊥) → (write_message d m t out).bytes ≡ out
+    → ((n : ℕ) → (write_message d m t out).answer ≡ Ok n → ⊥) → (write_message d m t out).bytes ≡ out
 unfolding write_message
 refused_leaves d m t out h = go (ltb (length out) room_least) (message_carried d m t) h
   where
     go : (a b : Bool)
-        → ((n : ℕ) → (cond a (done written.Room out) (cond b (done (written.Bits (length (message_bits d m t))) (put_bits out 0 (padded (message_bits d m t)))) (done written.Shape out))).answer ≡ written.Bits n → ⊥)
-        → (cond a (done written.Room out) (cond b (done (written.Bits (length (message_bits d m t))) (put_bits out 0 (padded (message_bits d m t)))) (done written.Shape out))).bytes ≡ out
+        → ((n : ℕ) → (cond a (done (Err Room) out) (cond b (done (Ok (length (message_bits d m t))) (put_bits out 0 (padded (message_bits d m t)))) (done (Err Shape) out))).answer ≡ Ok n → ⊥)
+        → (cond a (done (Err Room) out) (cond b (done (Ok (length (message_bits d m t))) (put_bits out 0 (padded (message_bits d m t)))) (done (Err Shape) out))).bytes ≡ out
     go true b f = refl
     go false true f = absurd (f (length (message_bits d m t)) refl)
     go false false f = refl
 
 pub unread_leaves : (d : Direction) (s : List ℕ) (n : ℕ) (z : List ℕ)
-    → ((k : ℕ) → (open_message d s n z).answer.answer ≡ opened.Characters k → ⊥) → (open_message d s n z).text ≡ z
+    → ((m : Message) (k : ℕ) → (open_message d s n z).answer ≡ Ok (m, k) → ⊥) → (open_message d s n z).text ≡ z
 unfolding open_message
-unread_leaves d s n z h = go (ltb (length z) room_least) (leb n bits_most && leb n (8 * length s)) (exactly d (bits_to s n)).step h
+unread_leaves d s n z h = go (ltb (length z) room_least) (leb n bits_most && leb n (8 * length s)) (exactly d (bits_to s n)) h
   where
-    tells : Bool → Bool → Step → Opening
-    tells a b w = cond a (opening (not_opened opened.Room) z) (cond b (opened_as z (exactly d (bits_to s n)).message
-        (message_text d (bits_to s n) 0 (exactly d (bits_to s n)).message) w) (opening (not_opened opened.Shape) z))
+    tells : Bool → Bool → Reading Message → Opening
+    tells a b w = cond a (not_opened z unopened.Room)
+        (cond b (onto (refused_by z) w (λ (x : Message) (next : ℕ). opened_as z x (message_text d (bits_to s n) 0 x))) (not_opened z unopened.Shape))
 
-    go : (a b : Bool) (w : Step) → ((k : ℕ) → (tells a b w).answer.answer ≡ opened.Characters k → ⊥) → (tells a b w).text ≡ z
+    go : (a b : Bool) (w : Reading Message) → ((m : Message) (k : ℕ) → (tells a b w).answer ≡ Ok (m, k) → ⊥) → (tells a b w).text ≡ z
     go true b w f = refl
     go false false w f = refl
-    go false true (step.Refused r) f = refl
-    go false true (step.Next next) f = absurd (f (length (message_text d (bits_to s n) 0 (exactly d (bits_to s n)).message)) refl)
+    go false true (Err r) f = refl
+    go false true (Ok (x, next)) f = absurd (f x (length (message_text d (bits_to s n) 0 x)) refl)
 
 -- ---- THE LARGEST MESSAGE: 41 to 48 bits of header, four, and those of its elements, each at most its index and the most of its argument's kind
 

@@ -4,25 +4,26 @@ ghost use Rattle.bits.specs.Bits.{bits_to};
 ghost use Rattle.inner.specs.Headers.{acknowledgement_at, date_time_at, dated_at, header_at, reference_at, time_of_day_at};
 
 use crate::measuring::header_fits;
-use crate::values::{DateTime, DateTimeRead, Header, HeaderRead, date_refusal};
-use bits::Read;
+use crate::values::{DateTime, Header};
 use elements::arguments::read_time;
-use elements::values::{Time, TimeRead, time_refusal};
-use fields::{Fault, Field, refusal_of};
+use elements::values::Time;
+use fields::{Fault, Reading};
 
 // The time that follows a date.
-fn read_time_of_day(s: &[u8], end: usize, year: u16, month: u8, day: u8, at: usize) -> DateTimeRead
+#[tactic(auto, unfolding(crate::specs::Headers::time_of_day_at))]
+fn read_time_of_day(
+    s: &[u8],
+    end: usize,
+    year: u16,
+    month: u8,
+    day: u8,
+    at: usize,
+) -> Reading<DateTime>
     ensures { result ≡ time_of_day_at (bits_to s.now end) year month day at }
 {
-    let minute = read_time(s, end, at);
-    let TimeRead::Got(time, from) = minute else {
-        return DateTimeRead::Refused(time_refusal(minute));
-    };
-    let last = fields::whole(s, end, from, 0, DateTime::LAST_SECOND);
-    let Field::Value(seconds, next) = last else {
-        return DateTimeRead::Refused(refusal_of(last));
-    };
-    DateTimeRead::Got(
+    let (time, from) = read_time(s, end, at)?;
+    let (seconds, next) = fields::whole(s, end, from, 0, DateTime::LAST_SECOND)?;
+    Ok((
         DateTime {
             year,
             month,
@@ -31,54 +32,46 @@ fn read_time_of_day(s: &[u8], end: usize, year: u16, month: u8, day: u8, at: usi
             seconds: seconds as u8,
         },
         next,
-    )
+    ))
 }
 
-fn read_date_time(s: &[u8], end: usize, at: usize) -> DateTimeRead
+#[tactic(auto, unfolding(crate::specs::Headers::date_time_at))]
+fn read_date_time(s: &[u8], end: usize, at: usize) -> Reading<DateTime>
     ensures { result ≡ date_time_at (bits_to s.now end) at }
 {
-    let first = fields::whole(s, end, at, DateTime::FIRST_YEAR, DateTime::LAST_YEAR);
-    let Field::Value(year, p) = first else {
-        return DateTimeRead::Refused(refusal_of(first));
-    };
-    let second = fields::whole(s, end, p, 1, DateTime::LAST_MONTH);
-    let Field::Value(month, q) = second else {
-        return DateTimeRead::Refused(refusal_of(second));
-    };
-    let third = fields::whole(s, end, q, 1, DateTime::LAST_DAY);
-    let Field::Value(day, r) = third else {
-        return DateTimeRead::Refused(refusal_of(third));
-    };
+    let (year, p) = fields::whole(s, end, at, DateTime::FIRST_YEAR, DateTime::LAST_YEAR)?;
+    let (month, q) = fields::whole(s, end, p, 1, DateTime::LAST_MONTH)?;
+    let (day, r) = fields::whole(s, end, q, 1, DateTime::LAST_DAY)?;
     read_time_of_day(s, end, year as u16, month as u8, day as u8, r)
 }
 
-fn read_reference(s: &[u8], end: usize, at: usize, present: bool) -> Field
+#[tactic(auto, unfolding(crate::specs::Headers::reference_at))]
+fn read_reference(s: &[u8], end: usize, at: usize, present: bool) -> Reading<u64>
     ensures { result ≡ reference_at (bits_to s.now end) at present }
 {
     if present {
         return fields::whole(s, end, at, 0, Header::LAST_NUMBER);
     }
-    Field::Value(0, at)
+    Ok((0, at))
 }
 
 // An acknowledgement that is present is required: its other value is the default.
-fn read_acknowledgement(s: &[u8], end: usize, at: usize, present: bool) -> Field
+#[tactic(auto, unfolding(crate::specs::Headers::acknowledgement_at))]
+fn read_acknowledgement(s: &[u8], end: usize, at: usize, present: bool) -> Reading<u64>
     ensures { result ≡ acknowledgement_at (bits_to s.now end) at present }
 {
     if present {
-        let value = fields::whole(s, end, at, 0, 1);
-        let Field::Value(v, next) = value else {
-            return value;
-        };
+        let (v, next) = fields::whole(s, end, at, 0, 1)?;
         if v == 0 {
-            return Field::Value(0, next);
+            return Ok((0, next));
         }
         return fields::refused_at(at, Fault::Default);
     }
-    Field::Value(0, at)
+    Ok((0, at))
 }
 
 // What follows the reference.
+#[tactic(auto, unfolding(crate::specs::Headers::dated_at))]
 fn read_dated(
     s: &[u8],
     end: usize,
@@ -87,18 +80,12 @@ fn read_dated(
     reference: u8,
     acknowledged: bool,
     at: usize,
-) -> HeaderRead
+) -> Reading<Header>
     ensures { result ≡ dated_at (bits_to s.now end) identification referenced reference acknowledged at }
 {
-    let date = read_date_time(s, end, at);
-    let DateTimeRead::Got(dated, from) = date else {
-        return HeaderRead::Refused(date_refusal(date));
-    };
-    let last = read_acknowledgement(s, end, from, acknowledged);
-    let Field::Value(_, next) = last else {
-        return HeaderRead::Refused(refusal_of(last));
-    };
-    HeaderRead::Got(
+    let (dated, from) = read_date_time(s, end, at)?;
+    let (_, next) = read_acknowledgement(s, end, from, acknowledged)?;
+    Ok((
         Header {
             identification,
             referenced,
@@ -107,26 +94,18 @@ fn read_dated(
             acknowledged,
         },
         next,
-    )
+    ))
 }
 
 // Field by field.
-fn read_header_by_fields(s: &[u8], end: usize, at: usize) -> HeaderRead
+#[tactic(auto, unfolding(crate::specs::Headers::header_at))]
+fn read_header_by_fields(s: &[u8], end: usize, at: usize) -> Reading<Header>
     ensures { result ≡ header_at (bits_to s.now end) at }
 {
-    let presence = fields::whole(s, end, at, 0, 3);
-    let Field::Value(present, p) = presence else {
-        return HeaderRead::Refused(refusal_of(presence));
-    };
-    let number = fields::whole(s, end, p, 0, Header::LAST_NUMBER);
-    let Field::Value(identification, q) = number else {
-        return HeaderRead::Refused(refusal_of(number));
-    };
+    let (present, p) = fields::whole(s, end, at, 0, 3)?;
+    let (identification, q) = fields::whole(s, end, p, 0, Header::LAST_NUMBER)?;
     let referenced = 2 <= present;
-    let other = read_reference(s, end, q, referenced);
-    let Field::Value(reference, r) = other else {
-        return HeaderRead::Refused(refusal_of(other));
-    };
+    let (reference, r) = read_reference(s, end, q, referenced)?;
     read_dated(
         s,
         end,
@@ -171,17 +150,15 @@ fn header_from(front: u64, w: u64) -> Header
 }
 
 // A header: as two numbers where it is one, else field by field, which names the fault.
-pub fn read_header(s: &[u8], end: usize, at: usize) -> HeaderRead
+pub fn read_header(s: &[u8], end: usize, at: usize) -> Reading<Header>
     ensures { result ≡ header_at (bits_to s.now end) at }
 {
-    let first = bits::read_bits(s, end, at, 8);
-    let Read::Number(front, p) = first else {
+    let Some((front, p)) = bits::read_bits(s, end, at, 8) else {
         return read_header_by_fields(s, end, at);
     };
     let present = front / 64;
     let n = 33 + 6 * (present / 2) + present % 2;
-    let rest = bits::read_bits(s, end, p, n as usize);
-    let Read::Number(v, next) = rest else {
+    let Some((v, next)) = bits::read_bits(s, end, p, n as usize) else {
         return read_header_by_fields(s, end, at);
     };
     if present % 2 == 1 {
@@ -190,13 +167,13 @@ pub fn read_header(s: &[u8], end: usize, at: usize) -> HeaderRead
         }
         let h = header_from(front, v / 2);
         if header_fits(h) {
-            return HeaderRead::Got(h, next);
+            return Ok((h, next));
         }
         return read_header_by_fields(s, end, at);
     }
     let h = header_from(front, v);
     if header_fits(h) {
-        return HeaderRead::Got(h, next);
+        return Ok((h, next));
     }
     read_header_by_fields(s, end, at)
 }

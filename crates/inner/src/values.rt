@@ -1,8 +1,7 @@
 // The values of an inner message. Whatever a value does not use is zero.
 ghost use Rattle.std.specs.Prelude.{◌≡◌};
-ghost use Rattle.inner.specs.Headers.{date_refusal, header_refusal};
 
-use elements::values::{Element, Step, Time};
+use elements::values::{Element, Time};
 use fields::Refusal;
 use words::Limit;
 
@@ -87,71 +86,23 @@ impl Message {
     };
 }
 
-// What reading finds: the value and the place after it, or the refusal.
-#[derive(Drop)]
-pub enum DateTimeRead {
-    Got(DateTime, usize),
-    Refused(Refusal),
-}
-
-#[derive(Drop)]
-pub enum HeaderRead {
-    Got(Header, usize),
-    Refused(Refusal),
-}
-
-#[derive(Drop)]
-pub struct PlacesRead {
-    pub step: Step,
-    pub places: [Element; 5],
-}
-
-#[derive(Drop)]
-pub struct MessageRead {
-    pub step: Step,
-    pub message: Message,
-}
-
-// What writing a message finds: the count of bits before the padding; or, with every byte as it was, a buffer under the least size, or a
-// message that is none of its type or passes the most bits.
-#[derive(Drop)]
-pub enum MessageWritten {
-    Bits(usize),
-    Room,
-    Shape,
-}
-
-// What reading a message and its text finds: how many characters there are; or, with every byte of the text as it was, a text under the
-// least size, a count of bits that is more than a message has at most or than the lent bytes hold, or the refusal.
-#[derive(Drop)]
-pub enum Opened {
-    Characters(usize),
+// Why a message and its text were not read, and every byte of the text is as it was: a text under the least size; a count of bits that is more
+// than a message has at most or than the lent bytes hold; the refusal of a field.
+#[derive(Clone, Copy)]
+pub enum Unopened {
     Room,
     Shape,
     Refused(Refusal),
 }
 
-#[derive(Drop)]
-pub struct MessageOpened {
-    pub answer: Opened,
-    pub message: Message,
-}
+impl From<Refusal> for Unopened {
+    ghost use Rattle.inner.specs.declared.values.Unopened.TheVariants.{Refused};
 
-// The refusal in an answer that is one.
-pub fn date_refusal(f: DateTimeRead) -> Refusal
-    ensures { result ≡ date_refusal f }
-{
-    match f {
-        DateTimeRead::Got(_, _) => Refusal::NONE,
-        DateTimeRead::Refused(r) => r,
-    }
-}
+    ghost from_gives = { λ r u. u ≡ Refused r };
 
-pub fn header_refusal(f: HeaderRead) -> Refusal
-    ensures { result ≡ header_refusal f }
-{
-    match f {
-        HeaderRead::Got(_, _) => Refusal::NONE,
-        HeaderRead::Refused(r) => r,
+    fn from(r: Refusal) -> Unopened
+        ensures { result ≡ Refused r }
+    {
+        Unopened::Refused(r)
     }
 }

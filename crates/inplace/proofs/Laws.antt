@@ -9,44 +9,42 @@ use lib.ListN.{length, take, drop, length-append}
 use lib.Seq.{take-length}
 use lib.Dec.{eqb}
 use borrow.Author.Tests.{eqb-true, eq-eqb}
+use Rattle.words.proofs.Laws.{ok_place, ok_value}
 use Rattle.bits.proofs.Numbers.{Bits}
 use Rattle.fields.specs.Encodings.{whole_bits}
-use Rattle.fields.specs.declared.Field.{Field}
-use Rattle.fields.specs.declared.Field.TheVariants as field
 use Rattle.fields.proofs.RoundTrip as trip
 use Rattle.kinds.specs.declared.Direction.{Direction}
-use Rattle.elements.specs.declared.values.Step.{Step}
-use Rattle.elements.specs.declared.values.Step.TheVariants as step
 use Rattle.elements.specs.declared.values.Element.{Element}
 use Rattle.elements.proofs.Standing.{Stands, as_field}
-use Rattle.elements.proofs.Steps.{never}
+use Rattle.elements.proofs.Steps.{never, then_is}
 use Rattle.inner.specs.declared.values.Message.{Message}
-use Rattle.inner.specs.declared.values.MessageRead.{MessageRead}
 use Rattle.inner.specs.Places.{row_bits}
-use Rattle.inner.specs.Messages.{no_header, body_at, message_at, is_message, message_text, message_fits, message_bits}
+use Rattle.inner.specs.Messages.{no_header, body_at, message_at, message_text, message_fits, message_bits}
 use Rattle.inner.proofs.MessageLaws.{message_reads, message_stands, one_bit}
 use Rattle.inner.proofs.MessageWritten.{length_message}
-use Rattle.inplace.specs.InPlace.{spanned, message_span, elements_span}
+use Rattle.inplace.specs.InPlace.{message_span, elements_span}
 use Rattle.inplace.proofs.Bodies.{body_bits, body_fits, body_reads, BodyIs, body_found}
+use Rattle.std.specs.Prelude.{Err, Ok}
+use Rattle.fields.specs.Fields.{Reading}
 
 -- ---- the statement
 
 -- bits that a reader takes from the first to the last
-abbrev pub is_all : ℕ → Field → Bool
-is_all n (field.Value k next) = eqb k n
-is_all n (field.Refused r) = false
+abbrev pub is_all : ℕ → Reading ℕ → Bool
+is_all n (Ok (k, next)) = eqb k n
+is_all n (Err r) = false
 
-unfoldable pub takes_all : (List ℕ → ℕ → Field) → List ℕ → Bool
+unfoldable pub takes_all : (List ℕ → ℕ → Reading ℕ) → List ℕ → Bool
 takes_all rd bs = is_all (length bs) (rd bs 0)
 
-pub record InPlace (rd : List ℕ → ℕ → Field) : Type 0 where
+pub record InPlace (rd : List ℕ → ℕ → Reading ℕ) : Type 0 where
   -- what was read stands there, and nothing else was looked at
-  pub stands : (l : List ℕ) (at n next : ℕ) → Bits l → rd l at ≡ field.Value n next → trip.Stands l at (take n (drop at l)) next
-  pub takes : (l : List ℕ) (at n next : ℕ) → Bits l → rd l at ≡ field.Value n next → takes_all rd (take n (drop at l)) ≡ true
-  pub count : (l : List ℕ) (at n next : ℕ) → Bits l → rd l at ≡ field.Value n next → length (take n (drop at l)) ≡ n
+  pub stands : (l : List ℕ) (at n next : ℕ) → Bits l → rd l at ≡ Ok (n, next) → trip.Stands l at (take n (drop at l)) next
+  pub takes : (l : List ℕ) (at n next : ℕ) → Bits l → rd l at ≡ Ok (n, next) → takes_all rd (take n (drop at l)) ≡ true
+  pub count : (l : List ℕ) (at n next : ℕ) → Bits l → rd l at ≡ Ok (n, next) → length (take n (drop at l)) ≡ n
   -- what is taken whole is read wherever it stands
   pub reads : (l bs : List ℕ) (at next : ℕ) → Bits bs → takes_all rd bs ≡ true → trip.Stands l at bs next
-      → rd l at ≡ field.Value (length bs) next
+      → rd l at ≡ Ok (length bs, next)
 
 -- ---- from values with bits
 
@@ -56,9 +54,9 @@ pub record Found {Val : Type 0} (ok : Val → Bool) (bits : Val → List ℕ) (l
   pub some : 0 < length (bits value)
   pub long : n ≡ length (bits value)
 
-module _ {Val : Type 0} (ok : Val → Bool) (bits : Val → List ℕ) (rd : List ℕ → ℕ → Field) (found : (l : List ℕ) (at n next : ℕ) → Bits l → rd l at ≡ field.Value n next → Found ok bits l at n next)
-    (back : (l : List ℕ) (at next : ℕ) (v : Val) → Stands l at (ok v) (bits v) next → rd l at ≡ field.Value (length (bits v)) next) where
-  module _ (l : List ℕ) (at n next : ℕ) (b : Bits l) (e : rd l at ≡ field.Value n next) where
+module _ {Val : Type 0} (ok : Val → Bool) (bits : Val → List ℕ) (rd : List ℕ → ℕ → Reading ℕ) (found : (l : List ℕ) (at n next : ℕ) → Bits l → rd l at ≡ Ok (n, next) → Found ok bits l at n next)
+    (back : (l : List ℕ) (at next : ℕ) (v : Val) → Stands l at (ok v) (bits v) next → rd l at ≡ Ok (length (bits v), next)) where
+  module _ (l : List ℕ) (at n next : ℕ) (b : Bits l) (e : rd l at ≡ Ok (n, next)) where
     there_is : take n (drop at l) ≡ bits (found l at n next b e).value
     there_is = let f = found l at n next b e in ap (λ (x : ℕ). take x (drop at l)) f.long ∙ f.there.holds
 
@@ -66,8 +64,7 @@ module _ {Val : Type 0} (ok : Val → Bool) (bits : Val → List ℕ) (rd : List
     stands_there = let f = found l at n next b e in subst (λ (x : List ℕ). trip.Stands l at x next) (sym there_is)
         (as_field l at next _ (bits f.value) f.some f.there)
 
-    alone : rd (bits (found l at n next b e).value) 0 ≡ field.Value (length (bits (found l at n next b e).value))
-        (length (bits (found l at n next b e).value))
+    alone : rd (bits (found l at n next b e).value) 0 ≡ Ok (length (bits (found l at n next b e).value), length (bits (found l at n next b e).value))
     alone =
         let f = found l at n next b e in
         let v : Val = (found l at n next b e).value in
@@ -85,8 +82,8 @@ module _ {Val : Type 0} (ok : Val → Bool) (bits : Val → List ℕ) (rd : List
     counted = let f = found l at n next b e in ap length there_is ∙ sym f.long
 
   module _ (l bs : List ℕ) (at next : ℕ) (b : Bits bs) (s : trip.Stands l at bs next) where
-    from : (f : Field) → rd bs 0 ≡ f → is_all (length bs) f ≡ true → rd l at ≡ field.Value (length bs) next
-    from (field.Value k m) e t =
+    from : (f : Reading ℕ) → rd bs 0 ≡ f → is_all (length bs) f ≡ true → rd l at ≡ Ok (length bs, next)
+    from (Ok (k, m)) e t =
         let n : k ≡ length bs = eqb-true k (length bs) t in
         let g = found bs 0 k m b e in
         let q : take k (drop 0 bs) ≡ bits g.value = there_is bs 0 k m b e in
@@ -94,10 +91,10 @@ module _ {Val : Type 0} (ok : Val → Bool) (bits : Val → List ℕ) (rd : List
         let p : next ≡ at + length bs = s.place in
         let h : take (length bs) (drop at l) ≡ bs = s.holds in
         let x : Stands l at (ok g.value) (bits g.value) next = record { fits = g.there.fits; holds = rw (← w) h; place = rw (← w) p } in
-        subst (λ (y : List ℕ). rd l at ≡ field.Value (length y) next) (sym w) (back l at next g.value x)
-    from (field.Refused r) e t = never (cc)
+        subst (λ (y : List ℕ). rd l at ≡ Ok (length y, next)) (sym w) (back l at next g.value x)
+    from (Err r) e t = never (cc)
 
-    reads_there : takes_all rd bs ≡ true → rd l at ≡ field.Value (length bs) next
+    reads_there : takes_all rd bs ≡ true → rd l at ≡ Ok (length bs, next)
     unfolding takes_all
     reads_there t = from (rd bs 0) refl t
 
@@ -117,25 +114,21 @@ module _ (d : Direction) where
   abbrev bits_message : Written → List ℕ
   bits_message v = message_bits d v.message v.text
 
-  message_found : (l : List ℕ) (at n next : ℕ) → Bits l → message_span d l at ≡ field.Value n next → Found ok_message bits_message l at n next
+  message_found : (l : List ℕ) (at n next : ℕ) → Bits l → message_span d l at ≡ Ok (n, next) → Found ok_message bits_message l at n next
   unfolding message_span
-  message_found l at n next b e = go (message_at d l at).step refl e
-    where
-      go : (s : Step) → (message_at d l at).step ≡ s → spanned at s ≡ field.Value n next → Found ok_message bits_message l at n next
-      go (step.Next k) p q =
-          let m : Message = (message_at d l at).message in
-          let j : k ≡ next = cc in
-          let c : k - at ≡ n = cc in
-          let w : message_at d l at ≡ is_message (message_at d l at).message k = rw (← p) in
-          let s = message_stands d l at k (message_at d l at).message b w in
-          let t : List ℕ = message_text d l at (message_at d l at).message in
-          let long = length_message d (message_at d l at).message (message_text d l at (message_at d l at).message) in
-          let o = s.place in
-          record { value = record { message = (message_at d l at).message; text = message_text d l at (message_at d l at).message }; there = rw (← j) s; some = omega arith; long = omega arith }
-      go (step.Refused r) p q = never (cc)
+  message_found l at n next b e =
+      then_is (message_at d l at) _ (n, next)
+      (λ (m : Message) (k : ℕ) (p : message_at d l at ≡ Ok (m, k)) (q : Ok (k - at, k) ≡ Ok (n, next)).
+      let j : k ≡ next = ok_place q in
+      let c : k - at ≡ n = ok_value q in
+      let s = message_stands d l at k m b p in
+      let long = length_message d m (message_text d l at m) in
+      let o = s.place in
+      record { value = record { message = m; text = message_text d l at m }; there = rw (← j) s; some = omega arith; long = omega arith })
+      e
 
   message_back : (l : List ℕ) (at next : ℕ) (v : Written) → Stands l at (ok_message v) (bits_message v) next
-      → message_span d l at ≡ field.Value (length (bits_message v)) next
+      → message_span d l at ≡ Ok (length (bits_message v), next)
   unfolding message_span
   message_back l at next v s =
       let e = message_reads d l at next v.message v.text s in
@@ -159,24 +152,23 @@ module _ (d : Direction) where
   abbrev bits_elements : Listed → List ℕ
   bits_elements v = body_bits d v.elements v.text
 
-  elements_found : (l : List ℕ) (at n next : ℕ) → Bits l → elements_span d l at ≡ field.Value n next
+  elements_found : (l : List ℕ) (at n next : ℕ) → Bits l → elements_span d l at ≡ Ok (n, next)
       → Found ok_elements bits_elements l at n next
   unfolding elements_span
-  elements_found l at n next b e = go (body_at d l no_header at).step refl e
-    where
-      go : (s : Step) → (body_at d l no_header at).step ≡ s → spanned at s ≡ field.Value n next → Found ok_elements bits_elements l at n next
-      go (step.Next k) p q =
-          let j : k ≡ next = cc in
-          let c : k - at ≡ n = cc in
-          let f = body_found d l at k no_header b p in
-          let o = f.there.place in
-          let z = length-append (whole_bits 0 1 0) (whole_bits 1 5 (length f.es) ++ row_bits d f.es f.text) in
-          let one = one_bit in
-          record { value = record { elements = f.es; text = f.text }; there = rw (← j) f.there; some = omega arith; long = omega arith }
-      go (step.Refused r) p q = never (cc)
+  elements_found l at n next b e =
+      then_is (body_at d l no_header at) _ (n, next)
+      (λ (m : Message) (k : ℕ) (p : body_at d l no_header at ≡ Ok (m, k)) (q : Ok (k - at, k) ≡ Ok (n, next)).
+      let j : k ≡ next = ok_place q in
+      let c : k - at ≡ n = ok_value q in
+      let f = body_found d l at k no_header m b p in
+      let o = f.there.place in
+      let z = length-append (whole_bits 0 1 0) (whole_bits 1 5 (length f.es) ++ row_bits d f.es f.text) in
+      let one = one_bit in
+      record { value = record { elements = f.es; text = f.text }; there = rw (← j) f.there; some = omega arith; long = omega arith })
+      e
 
   elements_back : (l : List ℕ) (at next : ℕ) (v : Listed) → Stands l at (ok_elements v) (bits_elements v) next
-      → elements_span d l at ≡ field.Value (length (bits_elements v)) next
+      → elements_span d l at ≡ Ok (length (bits_elements v), next)
   unfolding elements_span
   elements_back l at next v s =
       let e = body_reads d l at next no_header v.elements v.text s in

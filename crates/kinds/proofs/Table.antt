@@ -52,12 +52,21 @@ pub uplink_at : (n : ℕ) → kind_at (length downlink + n) ≡ kind_of Uplink n
 unfolding kind_at kind_of rows_of rows
 uplink_at n = ap (λ (x : ℕ). get_or kinds x NotCarried) (get_or-append-add downlink uplink n other)
 
+-- the same, as the code counts them
+pub downlink_kind : (n : ℕ) → n < 114 → kind_at n ≡ kind_of Downlink n
+unfolding downlink
+downlink_kind n h = downlink_at n h
+
+pub uplink_kind : (n : ℕ) → kind_at (114 + n) ≡ kind_of Uplink n
+unfolding downlink
+uplink_kind n = uplink_at n
+
 -- a number without a row is not carried
 pub no_row : (d : Direction) (n : ℕ) → length (rows_of d) ≤ n → NotCarried ≡ kind_of d n
 unfolding kind_of kinds
 no_row d n h = rw (get_or-eq_default (rows_of d) other h)
 
--- u_m237 stands behind the extension marker: it has a row, and is not carried
+-- uM237 stands behind the extension marker: it has a row, and is not carried
 pub u_m237 : kind_of Uplink 237 ≡ NotCarried
 unfolding kind_of kinds rows_of uplink
 u_m237 = refl

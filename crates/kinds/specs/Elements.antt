@@ -59,7 +59,7 @@ downlink =
     none ∷ none ∷ none ∷ none ∷ other ∷ other ∷ level ∷ none ∷ none ∷ time ∷
     other ∷ other ∷ none ∷ other ∷ []
 
--- ATCUplinkMsgElementId, uM0 to u_m237; u_m237 stands behind the extension marker and is not carried
+-- ATCUplinkMsgElementId, uM0 to uM237; uM237 stands behind the extension marker and is not carried
 unfoldable pub uplink : List ℕ
 uplink =
     none ∷ none ∷ none ∷ none ∷ none ∷ none ∷ level ∷ time ∷ other ∷ time ∷

@@ -16,7 +16,7 @@ impl Direction {
     pub const DOWNLINK_ROWS: usize = 114;
 
     pub const UPLINK_ROWS: usize = 238;
-    // The last index before the extension marker: u_m237 stands behind it.
+    // The last index before the extension marker: uM237 stands behind it.
     pub const DOWNLINK_LAST: u64 = 113;
 
     pub const UPLINK_LAST: u64 = 236;
@@ -416,22 +416,16 @@ fn kind_at(row: usize) -> ArgumentKind
 }
 
 // The kind of an element's argument; a number that has no row is not carried.
+#[tactic(auto, using(crate::proofs::Table::all_rows, crate::proofs::Table::downlink_rows, crate::proofs::Table::uplink_rows, crate::proofs::Table::downlink_kind, crate::proofs::Table::uplink_kind, crate::proofs::Table::no_row))]
 pub fn kind_of(direction: Direction, number: u8) -> ArgumentKind
     ensures { result ≡ kind_of direction number }
 {
     let row = number as usize;
     match direction {
-        Direction::Downlink => {
-            if row < Direction::DOWNLINK_ROWS {
-                return kind_at(row);
-            }
-            ArgumentKind::NotCarried
-        }
-        Direction::Uplink => {
-            if row < Direction::UPLINK_ROWS {
-                return kind_at(Direction::DOWNLINK_ROWS + row);
-            }
-            ArgumentKind::NotCarried
-        }
+        Direction::Downlink if row < Direction::DOWNLINK_ROWS => kind_at(row),
+        Direction::Uplink if row < Direction::UPLINK_ROWS => kind_at(
+            Direction::DOWNLINK_ROWS + row,
+        ),
+        _ => ArgumentKind::NotCarried,
     }
 }

@@ -1,4 +1,4 @@
--- What the loop that puts bytes keeps: the bytes that are left to put give the range that is meant.
+-- Bytes that are put into a range.
 -- Assumes nothing.
 use mathlib.Core.Path.{◌≡◌, refl, sym, ◌∙◌}
 use mathlib.Core.List.{List, [], ◌∷◌, ◌++◌, append-nil}

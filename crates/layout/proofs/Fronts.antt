@@ -13,8 +13,6 @@ use Rattle.bits.proofs.Numbers.{bits_bits_n, length_bits_n, num_bits_n}
 use Rattle.fields.specs.Fields.{digits_in}
 use Rattle.fields.specs.Encodings.{whole_bits, whole_fits}
 use Rattle.bits.specs.Put.{left, put_number}
-use Rattle.bits.specs.declared.Put.{Put}
-use Rattle.elements.specs.declared.values.Size.{Size}
 use Rattle.elements.specs.Writing.{Piece, pieces_bits, pieces_fit, put_pieces, whole}
 use Rattle.elements.proofs.Joined.{joined_put}
 use Rattle.elements.proofs.Whole.{whole_above, whole_below}
@@ -23,14 +21,15 @@ use Rattle.inner.specs.Headers.{header_fits, header_bits}
 use Rattle.inner.specs.Writing.{header_pieces}
 use Rattle.inner.proofs.RowPieces.{sized}
 use Rattle.layout.specs.Layout.{header_of, message_of}
+use Rattle.std.specs.Prelude.{Option}
 
 module _ (b : List ℕ) (h : Header) (p : h ≡ header_of b) where
-  pub front_measured : (r : Size) → r ≡ sized (header_fits h) (header_bits h)
+  pub front_measured : (r : Option ℕ) → r ≡ sized (header_fits h) (header_bits h)
       → r ≡ sized (header_fits (message_of b).header) (header_bits (message_of b).header)
   unfolding message_of
   front_measured r k = rw (← p) k
 
-  pub front_put : (s u : List ℕ) (e at : ℕ) (a : Put) → left a u ≡ put_pieces s e at (header_pieces h)
+  pub front_put : (s u : List ℕ) (e at : ℕ) (a : Option ℕ) → left a u ≡ put_pieces s e at (header_pieces h)
       → left a u ≡ put_pieces s e at (header_pieces (message_of b).header)
   unfolding message_of
   front_put s u e at a k = rw (← p) k
@@ -54,7 +53,7 @@ both_fit : (n : ℕ) → whole_fits 1 5 n ≡ true → pieces_fit (between n) �
 unfolding pieces_fit
 both_fit n f = rw f
 
-pub count_joined : (s t : List ℕ) (e at n : ℕ) (a : Put) (f : Bool) → f ≡ whole_fits 1 5 n → f ≡ true → (b : Bool)
+pub count_joined : (s t : List ℕ) (e at n : ℕ) (a : Option ℕ) (f : Bool) → f ≡ whole_fits 1 5 n → f ≡ true → (b : Bool)
     → b ≡ leb (at + 4) (min e (8 * length s)) → b ≡ true → left a t ≡ put_number s e at 4 (n - 1)
     → left a t ≡ put_pieces s e at (whole 0 1 0 ∷ whole 1 5 n ∷ [])
 count_joined s t e at n a f p q b i j h =

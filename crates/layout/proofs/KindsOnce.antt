@@ -14,11 +14,10 @@ use Rattle.kinds.specs.declared.ArgumentKind.{ArgumentKind}
 use Rattle.kinds.specs.declared.ArgumentKind.TheVariants.{NotCarried}
 use Rattle.kinds.specs.declared.Direction.{Direction}
 use Rattle.elements.specs.declared.values.Element.{Element}
-use Rattle.elements.specs.declared.values.Size.{Size}
-use Rattle.elements.specs.declared.values.Size.TheVariants as size
 use Rattle.elements.specs.OneElement.{element_fits, element_bits, element_fits_as, element_bits_as}
 use Rattle.elements.specs.Writing.{element_pieces, element_pieces_as}
 use Rattle.layout.specs.Layout.{KindsOf, element_of}
+use Rattle.std.specs.Prelude.{None, Option, Some}
 
 -- ---- the loop that looks them up
 
@@ -64,9 +63,9 @@ module _ (d : Direction) (b : List ℕ) (n i : ℕ) (ks : List ArgumentKind) (x 
       (first_of 23 (drop (12 + 24 * i) b) ∙ first_behind (12 + 24 * i) b) in
       inv.each i g (omega (arith, g, h)) ∙ ap (kind_of d) (sym q)
 
-  pub size_once : (t : List ℕ) (r : Size)
-      → r ≡ cond (element_fits_as d (get_or ks i NotCarried) x t) (size.Bits (length (element_bits_as d (get_or ks i NotCarried) x t))) size.Shape
-      → r ≡ cond (element_fits d x t) (size.Bits (length (element_bits d x t))) size.Shape
+  pub size_once : (t : List ℕ) (r : Option ℕ)
+      → r ≡ cond (element_fits_as d (get_or ks i NotCarried) x t) (Some (length (element_bits_as d (get_or ks i NotCarried) x t))) None
+      → r ≡ cond (element_fits d x t) (Some (length (element_bits d x t))) None
   unfolding element_fits element_bits
   size_once t r e = rw kind_there at e
 

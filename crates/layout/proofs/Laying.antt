@@ -1,59 +1,32 @@
--- The ways out of `is_laid`, as the code has them; the message of bytes that say one; and a message put into its range.
+-- Bytes that are a message, and a message put into its range.
 -- Assumes nothing.
 use mathlib.Core.Path.{◌≡◌, refl, ap, sym, ◌∙◌}
 use mathlib.Core.Bool.{Bool, true, false, cond, ◌&&◌}
 use mathlib.Core.List.{List, [], ◌∷◌, ◌++◌}
 use Prim.Native.Nat.{ℕ, suc, ◌+◌, ◌*◌}
 use native.Mathlib.Omega.{arith}
-use borrow.Author.Tests.{eq-eqb, ne_eqb, eqb-true}
+use borrow.Author.Tests.{eqb-true}
 use lib.Dec.{eqb}
 use lib.ListN.{length, drop, length-append}
 use lib.Seq.{sets}
 use Rattle.words.proofs.Laws.{both_left, both_right}
 use Rattle.elements.specs.declared.values.Element.{Element}
-use Rattle.elements.proofs.Steps.{never}
 use Rattle.inner.specs.declared.values.Header.{Header}
 use Rattle.inner.specs.declared.values.Message.{Message}
-use Rattle.layout.specs.Layout.{front_bytes, places_bytes, message_bytes, message_of, front_stands, places_stand, no_message, is_message, load_at}
+use Rattle.layout.specs.Layout.{front_bytes, places_bytes, message_bytes, front_stands, places_stand, message_stands}
 use Rattle.layout.proofs.Copied.{sets_append, sets_whole}
 use Rattle.layout.proofs.InOrder.{bytes_cons, length_place}
 use Rattle.layout.proofs.Pieces.{length_front}
 
-module _ (b : List ℕ) where
-  pub laid_long : (length b ≡ 132 → ⊥) → false ≡ (load_at b).known
-  unfolding load_at
-  laid_long h = rw (ne_eqb (length b) 132 h)
-
-  module _ (sized : length b ≡ 132) (t : Bool) (q : t ≡ front_stands b) where
-    pub laid_front : t ≡ false → false ≡ (load_at b).known
-    unfolding load_at
-    laid_front f = rw (eq-eqb (length b) 132 sized, ← q, f)
-
-    pub laid_places : t ≡ true → (u : Bool) → u ≡ places_stand 5 (drop 12 b) → u ≡ (load_at b).known
-    unfolding load_at
-    laid_places f u r = rw (eq-eqb (length b) 132 sized, ← q, f) (r ∙ known (places_stand 5 (drop 12 b)))
-      where
-        known : (x : Bool) → x ≡ (cond x (is_message (message_of b)) no_message).known
-        known true = refl
-        known false = refl
-
--- the message that they say
-pub laid_is : (b : List ℕ) → (load_at b).known ≡ true
-    → (length b ≡ 132) × ((load_at b).message ≡ message_of b) × (places_stand 5 (drop 12 b) ≡ true)
-unfolding load_at
-laid_is b h = go (eqb (length b) 132 && front_stands b && places_stand 5 (drop 12 b)) refl h
-  where
-    go : (x : Bool) → eqb (length b) 132 && front_stands b && places_stand 5 (drop 12 b) ≡ x
-        → (cond x (is_message (message_of b)) no_message).known ≡ true
-        → (length b ≡ 132) × ((cond x (is_message (message_of b)) no_message).message ≡ message_of b) × (places_stand 5 (drop 12 b) ≡ true)
-    go true e k = (
-      eqb-true (length b) 132 (both_left (eqb (length b) 132) (front_stands b)
-          (both_left (eqb (length b) 132 && front_stands b) (places_stand 5 (drop 12 b)) e)),
-      refl,
-      both_right
-          (eqb (length b) 132 && front_stands b) (places_stand 5 (drop 12 b)) e,
+-- the parts of bytes that are a message
+pub laid_is : (b : List ℕ) → message_stands b ≡ true → (length b ≡ 132) × (front_stands b ≡ true) × (places_stand 5 (drop 12 b) ≡ true)
+unfolding message_stands
+laid_is b h =
+    let q = both_left (eqb (length b) 132 && front_stands b) (places_stand 5 (drop 12 b)) h in (
+      eqb-true (length b) 132 (both_left (eqb (length b) 132) (front_stands b) q),
+      both_right (eqb (length b) 132) (front_stands b) q,
+      both_right (eqb (length b) 132 && front_stands b) (places_stand 5 (drop 12 b)) h,
     )
-    go false e k = never (cc)
 
 -- ---- storing
 

@@ -14,12 +14,13 @@ use Rattle.bits.proofs.Bytes.{Bytes}
 use Rattle.elements.specs.declared.values.Element.{Element}
 use Rattle.inner.specs.declared.values.Header.{Header}
 use Rattle.inner.specs.declared.values.Message.{Message}
-use Rattle.layout.specs.Layout.{front_bytes, place_bytes, places_bytes, message_bytes, header_of, element_of, elements_of, message_of, front_stands, place_stands, places_stand, is_message, no_message, load_at}
+use Rattle.layout.specs.Layout.{front_bytes, place_bytes, places_bytes, message_bytes, header_of, element_of, elements_of, message_of, front_stands, place_stands, places_stand, message_stands, load_at}
 use Rattle.layout.proofs.StructTypes.{ElementsTyped, none, more, Typed, places_fit, bytes_fit}
-use Rattle.layout.specs.declared.stored.Laid.{Laid}
 use Rattle.layout.proofs.InOrder.{elements_zero, elements_suc, stand_zero, stand_suc, fit_cons, bytes_cons, length_place}
 use Rattle.layout.proofs.Pieces.{length_front, header_back, count_back, front_stands_is, place_stands_is, element_back, front_of, place_of, element_typed}
-use Rattle.layout.proofs.Laying.{length_message}
+use Rattle.layout.proofs.Laying.{laid_is, length_message}
+use Rattle.elements.proofs.Steps.{never}
+use Rattle.std.specs.Prelude.{None, Option, Some}
 
 -- the first place, and those behind it
 first : (e : Element) (rest : List ℕ) → take 24 (place_bytes e ++ rest) ≡ place_bytes e
@@ -73,8 +74,8 @@ module _ (m : Message) (t : Typed m) (h : bytes_fit m ≡ true) where
       made : (x : Header) (n : ℕ) (es : List Element) → x ≡ m.header → n ≡ m.count → es ≡ m.places → ◌≡◌ {A = Message} (record { header = x; count = n; places = es }) m
       made x n es p q r = rw (p, q, r)
 
-  pub loaded_bytes : load_at (message_bytes m) ≡ is_message m
-  unfolding load_at
+  pub loaded_bytes : load_at (message_bytes m) ≡ Some m
+  unfolding load_at message_stands
   loaded_bytes = rw (length_message m t.five, front, rest, stand, of_bytes)
 
 -- ---- bytes that are a message
@@ -145,23 +146,19 @@ pub record Loaded (b : List ℕ) (m : Message) : Type 0 where
   pub typed : Typed m
   pub sized : length b ≡ 132
 
-pub loaded : (b : List ℕ) (m : Message) → Bytes b → load_at b ≡ is_message m → Loaded b m
+pub loaded : (b : List ℕ) (m : Message) → Bytes b → load_at b ≡ Some m → Loaded b m
 unfolding load_at
-loaded b m s e = known _ refl e
+loaded b m s e = known (message_stands b) refl e
   where
-    is : (eqb (length b) 132 && front_stands b && places_stand 5 (drop 12 b)) ≡ true → Loaded b (message_of b)
+    is : message_stands b ≡ true → Loaded b (message_of b)
     is p =
-        let q = both_left (eqb (length b) 132 && front_stands b) (places_stand 5 (drop 12 b)) p in
-        let stand = both_right (eqb (length b) 132 && front_stands b) (places_stand 5 (drop 12 b)) p in
-        let sized = eqb-true (length b) 132 (both_left (eqb (length b) 132) (front_stands b) q) in
-        let front = both_right (eqb (length b) 132) (front_stands b) q in
+        let q = laid_is b p in
         record {
-          bytes = bytes_are b sized s front stand;
-          typed = bytes_typed b sized s front stand;
-          sized = sized;
+          bytes = bytes_are b q.0 s q.1 q.2;
+          typed = bytes_typed b q.0 s q.1 q.2;
+          sized = q.0;
         }
 
-    known : (t : Bool) → (eqb (length b) 132 && front_stands b && places_stand 5 (drop 12 b)) ≡ t
-        → cond t (is_message (message_of b)) no_message ≡ is_message m → Loaded b m
-    known true p f = subst (Loaded b) (ap (λ (o : Laid). o.message) f) (is p)
-    known false p f = let z : false ≡ true = ap (λ (o : Laid). o.known) f in let n : ◌≡◌ {A = ℕ} 0 1 = cc in absurd (omega arith)
+    known : (t : Bool) → message_stands b ≡ t → cond {A = Option Message} t (Some (message_of b)) None ≡ Some m → Loaded b m
+    known true p f = let j : message_of b ≡ m = cc in subst (Loaded b) j (is p)
+    known false p f = never (cc)

@@ -11,20 +11,16 @@ use lib.ListN.{length, drop, set, get_or, replicate, length-append, length-set, 
 use lib.Seq.{sets}
 use Rattle.bits.proofs.Numbers.{Bits}
 use Rattle.fields.specs.Refusals.{packed}
-use Rattle.fields.specs.Fields.{refusal_of, refused_at}
+use Rattle.fields.specs.Fields.{Reading, refusal}
 use Rattle.fields.specs.declared.Fault.TheVariants as fault
-use Rattle.fields.specs.declared.Field.{Field}
 use Rattle.fields.specs.declared.Refusal.{Refusal}
 use Rattle.kinds.specs.declared.Direction.{Direction}
 use Rattle.elements.specs.declared.values.Element.{Element}
-use Rattle.elements.specs.declared.values.ElementRead.{ElementRead}
-use Rattle.elements.specs.declared.values.Step.TheVariants as step
-use Rattle.elements.specs.Arguments.{step_refusal}
 use Rattle.elements.specs.OneElement.{bare, element_at, text_of}
 use Rattle.inner.specs.declared.values.Header.{Header}
-use Rattle.inner.specs.Places.{these, refused, after, row_at, text_at}
+use Rattle.inner.specs.Places.{row_at, text_at}
 use Rattle.inner.specs.Messages.{room_least}
-use Rattle.inner.proofs.Filling.{after_after, filled_start, row_suc, row_zero}
+use Rattle.inner.proofs.Filling.{behind, behind_behind, filled_start, row_suc, row_zero}
 use Rattle.inner.proofs.Rows.{row_is}
 use Rattle.inner.proofs.Characters.{characters_most, row_few}
 use Rattle.layout.specs.Layout.{places_bytes, message_bytes, front_bytes}
@@ -32,6 +28,9 @@ use Rattle.layout.specs.Calls.{told, told_as, told_of}
 use Rattle.layout.specs.Rows.{texts_of, row_told_of}
 use Rattle.layout.proofs.Laying.{laid_whole}
 use Rattle.layout.proofs.Texts.{element_inside, text_suc, text_none, texts_more, inside_more, copied_front}
+use Rattle.std.specs.Prelude.{Err, Ok, Result}
+use Rattle.elements.proofs.Steps.{never}
+use Rattle.inner.specs.declared.values.Unopened.{Unopened}
 
 -- the first behind others is put anew
 set_behind : (es fs : List Element) (x y : Element) → set (es ++ (x ∷ fs)) (length es) y ≡ es ++ (y ∷ fs)
@@ -40,10 +39,10 @@ set_behind (e ∷ es) fs x y = ap (λ (l : List Element). e ∷ l) (set_behind e
 
 -- ---- the loop: i elements were read, and p is the place after them
 
-pub record Reading (d : Direction) (l : List ℕ) (at n i p : ℕ) (ps : List Element) (cs fs : List ℕ) : Type 0 where
+pub record Gathered (d : Direction) (l : List ℕ) (at n i p : ℕ) (ps : List Element) (cs fs : List ℕ) : Type 0 where
   pub es : List Element
   pub many : length es ≡ i
-  pub read : after es (row_at d l p (n - i)) ≡ row_at d l at n
+  pub read : behind es (row_at d l p (n - i)) ≡ row_at d l at n
   pub filled : ps ≡ es ++ replicate (5 - i) (bare 0)
   pub five : length ps ≡ 5
   pub counts : length cs ≡ 5
@@ -51,7 +50,7 @@ pub record Reading (d : Direction) (l : List ℕ) (at n i p : ℕ) (ps : List El
   pub text : texts_of l cs fs i ++ text_at d l p (n - i) ≡ text_at d l at n
   pub inside : (k : ℕ) → k < i → get_or fs k 0 + 7 * get_or cs k 0 ≤ length l
 
-pub reading_start : (d : Direction) (l : List ℕ) (at n : ℕ) → Reading d l at n 0 at (replicate 5 (bare 0)) (replicate 5 0) (replicate 5 0)
+pub reading_start : (d : Direction) (l : List ℕ) (at n : ℕ) → Gathered d l at n 0 at (replicate 5 (bare 0)) (replicate 5 0) (replicate 5 0)
 unfolding texts_of
 reading_start d l at n =
     let e : n - 0 ≡ n = omega arith in
@@ -67,54 +66,51 @@ reading_start d l at n =
       inside = λ (k : ℕ) (h : k < 0). omega arith;
     }
 
-module _ (d : Direction) (l : List ℕ) (at n i p : ℕ) (ps : List Element) (cs fs : List ℕ) (inv : Reading d l at n i p ps cs fs) where
-  module _ (h : i < n) (r : ElementRead) (e : r ≡ element_at d l p) where
+module _ (d : Direction) (l : List ℕ) (at n i p : ℕ) (ps : List Element) (cs fs : List ℕ) (inv : Gathered d l at n i p ps cs fs) where
+  module _ (h : i < n) (f : Reading Element) (e : f ≡ element_at d l p) where
     one_more : n - i ≡ suc (n - suc i)
     one_more = omega arith
 
-    pub reading_bad : (f : Refusal) → r.step ≡ step.Refused f → row_at d l at n ≡ refused f
-    reading_bad f q = sym inv.read ∙ rw (one_more, row_suc, ← e, q)
+    pub reading_bad : (r : Refusal) → f ≡ Err r → row_at d l at n ≡ Err r
+    reading_bad r q = sym inv.read ∙ rw (one_more, row_suc, ← e, q)
 
-    module _ (five : n ≤ 5) (bits : Bits l) (q : ℕ) (g : r.step ≡ step.Next q) where
-      its_text : text_at d l p (n - i) ≡ text_of l r.element q ++ text_at d l q (n - suc i)
+    module _ (five : n ≤ 5) (bits : Bits l) (x : Element) (q : ℕ) (g : f ≡ Ok (x, q)) where
+      its_text : text_at d l p (n - i) ≡ text_of l x q ++ text_at d l q (n - suc i)
       its_text = rw (one_more, text_suc, ← e, g)
 
-      its_inside : q - 7 * r.element.characters + 7 * r.element.characters ≤ length l
-      its_inside = let o = element_inside d l p q r bits e g in let a = o.after in let m = o.within in omega arith
+      its_inside : q - 7 * x.characters + 7 * x.characters ≤ length l
+      its_inside = let o = element_inside d l p q x f bits e g in let a = o.after in let m = o.within in omega arith
 
-      put : set ps i r.element ≡ (inv.es ++ (r.element ∷ [])) ++ replicate (5 - suc i) (bare 0)
+      put : set ps i x ≡ (inv.es ++ (x ∷ [])) ++ replicate (5 - suc i) (bare 0)
       put =
           let m = inv.many in
           let k : 5 - i ≡ suc (5 - suc i) = omega (arith, h, five) in
           let w : ps ≡ inv.es ++ (bare 0 ∷ replicate (5 - suc i) (bare 0)) = rw k at inv.filled in
           rw (w, ← m, set_behind, append_assoc)
 
-      pub reading_turn : Reading d l at n (i + 1) q (set ps i r.element) (set cs i r.element.characters)
-          (set fs i (q - 7 * r.element.characters))
+      pub reading_turn : Gathered d l at n (i + 1) q (set ps i x) (set cs i x.characters) (set fs i (q - 7 * x.characters))
       reading_turn =
-          let a : after inv.es (after (r.element ∷ []) (row_at d l q (n - suc i))) ≡ row_at d l at n = rw
+          let a : behind inv.es (behind (x ∷ []) (row_at d l q (n - suc i))) ≡ row_at d l at n = rw
           (one_more, row_suc, ← e, g) at inv.read in
           let m = inv.many in
-          let o = length-append inv.es (r.element ∷ []) in
+          let o = length-append inv.es (x ∷ []) in
           let u = inv.counts in
           let v = inv.starts in
-          let k : texts_of l cs fs i ++ (text_of l r.element q ++ text_at d l q (n - suc i)) ≡ text_at d l at n = rw its_text at
+          let k : texts_of l cs fs i ++ (text_of l x q ++ text_at d l q (n - suc i)) ≡ text_at d l at n = rw its_text at
           inv.text in
           rw (add-one i) (record {
-            es = inv.es ++ (r.element ∷ []);
+            es = inv.es ++ (x ∷ []);
             many = omega arith;
-            read = rw (← after_after) a;
+            read = rw (← behind_behind inv.es (x ∷ []) (row_at d l q (n - suc i))) a;
             filled = put;
-            five = length-set ps i r.element ∙ inv.five;
-            counts = length-set cs i r.element.characters ∙ inv.counts;
-            starts = length-set fs i (q - 7 * r.element.characters) ∙ inv.starts;
+            five = length-set ps i x ∙ inv.five;
+            counts = length-set cs i x.characters ∙ inv.counts;
+            starts = length-set fs i (q - 7 * x.characters) ∙ inv.starts;
             text = rw (
-              texts_more l cs fs i r.element.characters (q - 7 * r.element.characters) (omega arith)
-                  (omega arith),
+              texts_more l cs fs i x.characters (q - 7 * x.characters) (omega arith) (omega arith),
               append_assoc,
             ) k;
-            inside = inside_more l cs fs i r.element.characters (q - 7 * r.element.characters) (omega arith)
-                (omega arith) its_inside inv.inside;
+            inside = inside_more l cs fs i x.characters (q - 7 * x.characters) (omega arith) (omega arith) its_inside inv.inside;
           })
 
   -- ---- all were read
@@ -123,10 +119,10 @@ module _ (d : Direction) (l : List ℕ) (at n i p : ℕ) (ps : List Element) (cs
     all : i ≡ n
     all = omega arith
 
-    pub reading_row : row_at d l at n ≡ these inv.es p
+    pub reading_row : row_at d l at n ≡ Ok (inv.es, p)
     reading_row =
         let k : n - n ≡ 0 = omega arith in
-        let z : these (inv.es ++ []) p ≡ row_at d l at n = rw (all, k, row_zero) at inv.read in
+        let z : Ok (inv.es ++ [], p) ≡ row_at d l at n = rw (all, k, row_zero) at inv.read in
         rw (← z, append-nil)
 
     pub reading_text : texts_of l cs fs n ≡ text_at d l at n
@@ -149,20 +145,25 @@ module _ (d : Direction) (l : List ℕ) (at n i p : ℕ) (ps : List Element) (cs
 
 -- ---- the ways out
 
-module _ (d : Direction) (l : List ℕ) (at n i p : ℕ) (ps : List Element) (cs fs : List ℕ) (inv : Reading d l at n i p ps cs fs) (h : Header) (m t : List ℕ) where
-  pub row_refused : i < n → (r : ElementRead) → r ≡ element_at d l p → (f x : Refusal) (k : ℕ) → r.step ≡ step.Refused f
-      → x ≡ step_refusal r.step → k ≡ packed x → told k m t ≡ row_told_of d l h at n m t
+pub few_taken : (c k : ℕ) → ◌≡◌ {A = Result ℕ Unopened} (Ok c) (Ok k) → c ≤ 1280 → k ≤ 1280
+few_taken c k h b = let j : c ≡ k = cc in omega arith
+
+pub none_taken : (r : Unopened) (k : ℕ) → ◌≡◌ {A = Result ℕ Unopened} (Err r) (Ok k) → k ≤ 1280
+none_taken r k h = never (cc)
+
+module _ (d : Direction) (l : List ℕ) (at n i p : ℕ) (ps : List Element) (cs fs : List ℕ) (inv : Gathered d l at n i p ps cs fs) (h : Header) (m t : List ℕ) where
+  pub row_refused : i < n → (f : Reading Element) → f ≡ element_at d l p → (r : Refusal) → f ≡ Err r
+      → told (packed r) m t ≡ row_told_of d l h at n m t
   unfolding row_told_of told_of told_as
-  row_refused g r e f x k q a w = rw (reading_bad d l at n i p ps cs fs inv g r e f q, w, a, q)
+  row_refused g f e r q = rw (reading_bad d l at n i p ps cs fs inv g f e r q)
 
   module _ (over : n ≤ i) (most : i ≤ n) (five : n ≤ 5) (bits : Bits l) where
-    row : row_at d l at n ≡ these inv.es p
+    row : row_at d l at n ≡ Ok (inv.es, p)
     row = reading_row d l at n i p ps cs fs inv over most five bits
 
-    pub row_tail : leb (p + 1) (length l) ≡ true → (u : Field) (x : Refusal) (k : ℕ) → u ≡ refused_at p fault.Tail → x ≡ refusal_of u
-        → k ≡ packed x → told k m t ≡ row_told_of d l h at n m t
+    pub row_tail : leb (p + 1) (length l) ≡ true → told (packed (refusal p fault.Tail)) m t ≡ row_told_of d l h at n m t
     unfolding row_told_of told_of told_as
-    row_tail g u x k f q w = rw (row, g, w, q, f)
+    row_tail g = rw (row, g)
 
     taken : leb (p + 1) (length l) ≡ false → (c : ℕ) (z v : List ℕ)
         → z ≡ front_bytes h n ++ places_bytes (inv.es ++ replicate (5 - length inv.es) (bare 0)) → c ≡ length (text_at d l at n)

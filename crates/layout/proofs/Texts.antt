@@ -14,39 +14,37 @@ use borrow.Author.Tests.{eqb-true, eqb-false, le-leb}
 use Rattle.words.proofs.Laws.{both_right}
 use Rattle.bits.specs.Bits.{bits_n, num_of}
 use Rattle.bits.specs.Read.{read_bits}
-use Rattle.bits.specs.declared.Read.{Read}
-use Rattle.bits.specs.declared.Read.TheVariants.{Number, Short}
 use Rattle.bits.proofs.Numbers.{Bits, bits_n_part, num_bits_n}
 use Rattle.bits.proofs.Bytes.{holds_within, part_bits}
 use Rattle.bits.proofs.Reading.{number_is}
+use Rattle.fields.specs.Fields.{Reading, onto}
 use Rattle.fields.specs.Encodings.{whole_fits}
 use Rattle.kinds.specs.declared.Direction.{Direction}
 use Rattle.kinds.specs.declared.ArgumentKind.{ArgumentKind}
 use Rattle.kinds.specs.declared.ArgumentKind.TheVariants as kind
 use Rattle.elements.specs.declared.values.Element.{Element}
-use Rattle.elements.specs.declared.values.ElementRead.{ElementRead}
-use Rattle.elements.specs.declared.values.Step.TheVariants as step
 use Rattle.kinds.specs.Elements.{kind_of}
 use Rattle.elements.specs.Arguments.{characters_bits, characters_in, level_fits, time_fits, code_fits_of, facility_bits}
-use Rattle.elements.specs.OneElement.{is_element, element_at, element_fits, element_bits, last_of, text_of, argument_fits, argument_bits, level_unused, levels_unused, time_unused, code_unused, plain, no_text_of}
+use Rattle.elements.specs.OneElement.{element_at, element_fits, element_bits, last_of, text_of, argument_fits, argument_bits, level_unused, levels_unused, time_unused, code_unused, plain, no_text_of}
 use Rattle.elements.proofs.Steps.{never}
 use Rattle.elements.proofs.ReadBack.{parts}
 use Rattle.elements.proofs.Texts.{length_characters, length_characters_bits, characters_found, characters_fit_is, characters_stand}
 use Rattle.elements.proofs.Measured.{length_element, length_sized, length_facility}
 use Rattle.elements.proofs.Placed.{element_stands}
-use Rattle.inner.specs.Places.{onto_text, text_at}
+use Rattle.inner.specs.Places.{no_text, text_at}
 use Rattle.layout.specs.Rows.{texts_of}
 use Rattle.layout.proofs.Copied.{sets_append}
+use Rattle.std.specs.Prelude.{None, Ok, Option, Some}
 
 -- ---- bits that are there, as a number
 
-module _ (l : List ℕ) (at n : ℕ) (r : Read) (e : r ≡ read_bits l at n) where
-  pub number_there : (v next : ℕ) → r ≡ Number v next → v ≡ num_of (take n (drop at l))
+module _ (l : List ℕ) (at n : ℕ) (r : Option (ℕ × ℕ)) (e : r ≡ read_bits l at n) where
+  pub number_there : (v next : ℕ) → r ≡ Some (v, next) → v ≡ num_of (take n (drop at l))
   number_there v next q = (number_is l at n v next (sym e ∙ q)).value
 
-  pub not_short : at + n ≤ length l → n ≤ 64 → r ≡ Short → {A : Type 0} → A
+  pub not_short : at + n ≤ length l → n ≤ 64 → r ≡ None → {A : Type 0} → A
   unfolding read_bits
-  not_short h w q = let z : Number (num_of (take n (drop at l))) (at + n) ≡ Short = rw
+  not_short h w q = let z : ◌≡◌ {A = Option (ℕ × ℕ)} (Some (num_of (take n (drop at l)), at + n)) None = rw
       (le-leb n 64 w, le-leb (at + n) (length l) h) at (sym e ∙ q) in never (cc)
 
 -- ---- characters one after another
@@ -98,6 +96,23 @@ eight_turn z z' l o from at n i h inv e =
     let b : from + i + 8 ≡ from + (i + 8) = omega arith in
     let c : at + 7 * i + 7 * 8 ≡ at + 7 * (i + 8) = omega arith in
     rw e (rw (a, characters_add, sets_append, length_characters (l) (at + 7 * i) 8, b, c) at inv)
+
+pub eights_turn : (z z' l o : List ℕ) (from at n k : ℕ) → k < n / 8
+    → sets z (from + 8 * k) (characters_in l (at + 7 * (8 * k)) (n - 8 * k)) ≡ o
+    → z' ≡ sets z (from + 8 * k) (characters_in l (at + 56 * k) 8)
+    → sets z' (from + 8 * (k + 1)) (characters_in l (at + 7 * (8 * (k + 1))) (n - 8 * (k + 1))) ≡ o
+eights_turn z z' l o from at n k h inv e =
+    let a : 8 * (k + 1) ≡ 8 * k + 8 = omega arith in
+    let b : 56 * k ≡ 7 * (8 * k) = omega arith in
+    rw a (eight_turn z z' l o from at n (8 * k) (omega arith) inv (rw b at e))
+
+pub eights_done : (z z' l o : List ℕ) (from at n k : ℕ) → n / 8 ≤ k → k ≤ n / 8
+    → sets z (from + 8 * k) (characters_in l (at + 7 * (8 * k)) (n - 8 * k)) ≡ o
+    → z' ≡ sets z (from + (n - n % 8)) (characters_in l (at + 7 * (n - n % 8)) (n % 8)) → z' ≡ o
+eights_done z z' l o from at n k h g inv e =
+    let a : 8 * k ≡ n - n % 8 = omega arith in
+    let b : n - (n - n % 8) ≡ n % 8 = omega arith in
+    e ∙ (rw (a, b) at inv)
 
 -- the characters that a number says
 pub spread_at : (n v i : ℕ) → i < n → v / 2 ^ (7 * (n - 1 - i)) % 128 ≡ num_of (take 7 (drop (0 + 7 * i) (bits_n (7 * n) v)))
@@ -166,13 +181,11 @@ pub record Inside (l : List ℕ) (at next n : ℕ) : Type 0 where
   pub after : at + 7 * n ≤ next
   pub within : next ≤ length l
 
-pub element_inside : (d : Direction) (l : List ℕ) (at next : ℕ) (r : ElementRead) → Bits l → r ≡ element_at d l at
-    → r.step ≡ step.Next next → Inside l at next r.element.characters
-element_inside d l at next r b h q =
-    let e : Element = r.element in
+pub element_inside : (d : Direction) (l : List ℕ) (at next : ℕ) (e : Element) (f : Reading Element) → Bits l → f ≡ element_at d l at
+    → f ≡ Ok (e, next) → Inside l at next e.characters
+element_inside d l at next e f b h q =
     let t : List ℕ = text_of l e next in
-    let m : element_at d l at ≡ is_element e next = sym h ∙ rw (← q) in
-    let s = element_stands d l at next e b m in
+    let s = element_stands d l at next e b (sym h ∙ q) in
     let n : length t ≡ e.characters = length_characters l (next - 7 * e.characters) e.characters in
     let a = length_element d e t in
     let c = argument_holds (kind_of d e.number) e t (its_argument d e t s.fits) in
@@ -183,8 +196,7 @@ element_inside d l at next r b h q =
 -- ---- the characters of elements
 
 pub text_suc : (d : Direction) (l : List ℕ) (at n : ℕ)
-    → text_at d l at (suc n) ≡ onto_text (element_at d l at).step
-    (λ (next : ℕ). text_of l (element_at d l at).element next ++ text_at d l next n)
+    → text_at d l at (suc n) ≡ onto no_text (element_at d l at) (λ (e : Element) (next : ℕ). text_of l e next ++ text_at d l next n)
 unfolding text_at
 text_suc d l at n = refl
 

@@ -27,7 +27,7 @@
 -- The characters of all elements stand in a text beside the message, one element's after another's. A number may be any that its bytes
 -- hold:
 -- whether it is one of its type, and whether what is not used is zero, the writer asks.
-use Rattle.std.specs.Prelude.{ℕ, zero, suc, ◌+◌, ◌*◌, ◌/◌, ◌%◌, ◌<◌, ◌≡◌, Bool, true, false, cond, ◌&&◌, List, [], ◌∷◌, ◌++◌, ltb, eqb, length, get_or, take, drop}
+use Rattle.std.specs.Prelude.{ℕ, zero, suc, ◌+◌, ◌*◌, ◌/◌, ◌%◌, ◌<◌, ◌≡◌, Bool, true, false, cond, ◌&&◌, List, [], ◌∷◌, ◌++◌, ltb, eqb, length, get_or, take, drop, None, Option, Some}
 use Rattle.kinds.specs.Elements.{kind_of}
 use Rattle.kinds.specs.declared.ArgumentKind.{ArgumentKind}
 use Rattle.kinds.specs.declared.ArgumentKind.TheVariants.{NotCarried}
@@ -35,10 +35,8 @@ use Rattle.kinds.specs.declared.Direction.{Direction}
 use Rattle.elements.specs.Arguments.{flag}
 use Rattle.elements.specs.declared.values.Level.{Level}
 use Rattle.elements.specs.declared.values.Element.{Element}
-use Rattle.inner.specs.Messages.{empty_message}
 use Rattle.inner.specs.declared.values.Header.{Header}
 use Rattle.inner.specs.declared.values.Message.{Message}
-use Rattle.layout.specs.declared.stored.Laid.{Laid}
 
 -- the bytes of the front, of a place, and of all
 abbrev pub front_size : ℕ
@@ -147,11 +145,9 @@ unfoldable pub places_stand : ℕ → List ℕ → Bool
 places_stand zero b = true
 places_stand (suc n) b = place_stands (take place_size b) && places_stand n (drop place_size b)
 
-abbrev pub is_message : Message → Laid
-is_message m = record { known = true; message = m }
+-- a message's size, its front, and its places
+unfoldable pub message_stands : List ℕ → Bool
+message_stands b = eqb (length b) size && front_stands b && places_stand 5 (drop front_size b)
 
-abbrev pub no_message : Laid
-no_message = record { known = false; message = empty_message }
-
-unfoldable pub load_at : List ℕ → Laid
-load_at b = cond (eqb (length b) size && front_stands b && places_stand 5 (drop front_size b)) (is_message (message_of b)) no_message
+unfoldable pub load_at : List ℕ → Option Message
+load_at b = cond (message_stands b) (Some (message_of b)) None

@@ -3,36 +3,27 @@ ghost use Rattle.std.specs.Prelude.{◌≡◌};
 ghost use Rattle.layout.specs.Calls.{read_call, sent, told, way_of, write_call};
 
 use crate::reading::read_laid;
-use crate::stored::{Laid, is_laid};
+use crate::stored::{BYTES, message_stands};
 use crate::writing::write_laid;
-use inner::values::{Message, MessageWritten};
+use inner::values::{Message, Unopened};
 use kinds::Direction;
-use words::Limit;
+use words::{Limit, Unwritten};
+
+// A count of characters is answered in the bits above a refusal's number, a count of bits in those above it.
+const COUNTED: u64 = 256;
+
+const COUNTED_BITS: u64 = 16777216;
 
 // The direction that a number names: 1 is the downlink, 2 the uplink.
-#[derive(Drop)]
-pub enum Way {
-    Is(Direction),
-    NoWay,
-}
-
-impl Way {
-    // A count of characters is answered in the bits above a refusal's number, a count of bits in those above it.
-    pub(crate) const COUNTED: u64 = 256;
-
-    const COUNTED_BITS: u64 = 16777216;
-}
-
-fn way_of(n: u64) -> Way
+#[tactic(auto, unfolding(crate::specs::Calls::way_of))]
+fn way_of(n: u64) -> Option<Direction>
     ensures { result ≡ way_of n }
 {
-    if n == 1 {
-        return Way::Is(Direction::Downlink);
+    match n {
+        1 => Some(Direction::Downlink),
+        2 => Some(Direction::Uplink),
+        _ => None,
     }
-    if n == 2 {
-        return Way::Is(Direction::Uplink);
-    }
-    Way::NoWay
 }
 
 // The message that the first `count` bits are, into the range `message`, and its characters into the first bytes of `text`.
@@ -49,14 +40,18 @@ pub fn read_call(
     if text.len() < Message::ROOM {
         return Limit::ROOM;
     }
-    if message.len() != Laid::BYTES {
+    if message.len() != BYTES {
         return Limit::SHAPE;
     }
-    let way = way_of(direction);
-    let Way::Is(d) = way else {
+    let Some(way) = way_of(direction) else {
         return Limit::SHAPE;
     };
-    read_laid(d, bits, count as usize, message, text)
+    match read_laid(way, bits, count as usize, message, text) {
+        Ok(n) => COUNTED * n as u64,
+        Err(Unopened::Room) => Limit::ROOM,
+        Err(Unopened::Shape) => Limit::SHAPE,
+        Err(Unopened::Refused(r)) => fields::packed(r),
+    }
 }
 
 // The message in the range `message`, whose characters are `text`, from the buffer's first bit on.
@@ -66,17 +61,15 @@ pub fn write_call(direction: u64, message: &[u8], text: &[u8], out: &mut [u8]) -
     if out.len() < Message::ROOM {
         return Limit::ROOM;
     }
-    if !is_laid(message) {
+    if !message_stands(message) {
         return Limit::SHAPE;
     }
-    let way = way_of(direction);
-    let Way::Is(d) = way else {
+    let Some(way) = way_of(direction) else {
         return Limit::SHAPE;
     };
-    let answer = write_laid(d, message, text, out);
-    match answer {
-        MessageWritten::Bits(n) => Way::COUNTED_BITS * n as u64,
-        MessageWritten::Room => Limit::ROOM,
-        MessageWritten::Shape => Limit::SHAPE,
+    match write_laid(way, message, text, out) {
+        Ok(n) => COUNTED_BITS * n as u64,
+        Err(Unwritten::Room) => Limit::ROOM,
+        Err(Unwritten::Shape) => Limit::SHAPE,
     }
 }

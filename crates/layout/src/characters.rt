@@ -5,7 +5,6 @@ ghost use Rattle.bits.specs.Bits.{bits_n, bits_to, num_of};
 ghost use Rattle.elements.specs.Arguments.{characters_in};
 ghost use Rattle.layout.specs.Rows.{texts_of};
 
-use bits::Read;
 use elements::values::Element;
 
 // The number that n bits say that are there, at most 64.
@@ -13,7 +12,7 @@ fn number_of(s: &[u8], end: usize, at: usize, n: usize) -> u64
     requires { (at + n ≤ length (bits_to s.now end)) × (n ≤ 64) }
     ensures { result ≡ num_of (take n (drop at (bits_to s.now end))) }
 {
-    let Read::Number(v, _) = bits::read_bits(s, end, at, n) else {
+    let Some((v, _)) = bits::read_bits(s, end, at, n) else {
         return 0;
     };
     v
@@ -24,10 +23,8 @@ fn spread(text: &mut [u8], from: usize, n: usize, v: u64)
     requires { (from + n ≤ length text.old) × (n ≤ 8) }
     ensures { text.new ≡ sets text.old from (characters_in (bits_n (7 * n) v) 0 n) }
 {
-    let mut i: usize = 0;
-    while i < n {
+    for i in 0..n {
         text[from + i] = ((v >> (Element::CHARACTER_BITS * (n - 1 - i))) % 128) as u8;
-        i += 1;
     }
 }
 
@@ -45,18 +42,24 @@ fn copy_characters(s: &[u8], end: usize, at: usize, n: usize, text: &mut [u8], f
     requires { (at + 7 * n ≤ length (bits_to s.now end)) × (from + n ≤ length text.old) }
     ensures { text.new ≡ sets text.old from (characters_in (bits_to s.now end) at n) }
 {
-    let mut i: usize = 0;
-    while 8 <= n - i {
-        copy_few(s, end, at + Element::CHARACTER_BITS * i, 8, text, from + i);
-        i += 8;
+    for k in 0..n / 8 {
+        copy_few(
+            s,
+            end,
+            at + 8 * Element::CHARACTER_BITS * k,
+            8,
+            text,
+            from + 8 * k,
+        );
     }
+    let rest = n % 8;
     copy_few(
         s,
         end,
-        at + Element::CHARACTER_BITS * i,
-        n - i,
+        at + Element::CHARACTER_BITS * (n - rest),
+        rest,
         text,
-        from + i,
+        from + (n - rest),
     );
 }
 
@@ -74,13 +77,11 @@ pub(crate) fn copy_texts(
     ensures { (result ≡ length (texts_of (bits_to s.now end) counts starts n)) × (text.new ≡
         sets text.old 0 (texts_of (bits_to s.now end) counts starts n)) }
 {
-    let mut i: usize = 0;
     let mut t: usize = 0;
-    while i < n {
+    for i in 0..n {
         let c = counts[i];
         copy_characters(s, end, starts[i], c, text, t);
         t += c;
-        i += 1;
     }
     t
 }

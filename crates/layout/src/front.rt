@@ -2,7 +2,7 @@
 ghost use Rattle.std.specs.Prelude.{◌≡◌, ◌<◌, ◌≤◌, length};
 ghost use Rattle.layout.specs.Layout.{front_bytes, front_size, front_stands, header_of};
 
-use crate::bytes::{flag_code, lower, of_two, upper};
+use crate::bytes::{flag_code, high, low, of_two};
 use elements::values::Time;
 use inner::values::{DateTime, Header};
 
@@ -29,14 +29,12 @@ pub(crate) fn load_header(b: &[u8]) -> Header
     }
 }
 
+#[tactic(auto, unfolding(crate::specs::Layout::front_stands))]
 pub(crate) fn front_stands(b: &[u8]) -> bool
     requires { front_size ≤ length b.now }
     ensures { result ≡ front_stands b.now }
 {
-    if 2 <= b[1] {
-        return false;
-    }
-    b[10] < 2
+    b[1] < 2 && b[10] < 2
 }
 
 pub(crate) fn front_bytes(h: Header, count: usize) -> [u8; 12]
@@ -49,8 +47,8 @@ pub(crate) fn front_bytes(h: Header, count: usize) -> [u8; 12]
         h.identification,
         flag_code(h.referenced),
         h.reference,
-        upper(d.year),
-        lower(d.year),
+        high(d.year as u64),
+        low(d.year as u64),
         d.month,
         d.day,
         t.hours,

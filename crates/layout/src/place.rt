@@ -2,7 +2,7 @@
 ghost use Rattle.std.specs.Prelude.{◌≡◌, ◌+◌, ◌≤◌, length};
 ghost use Rattle.layout.specs.Layout.{element_of, level_of, place_bytes, place_size, place_stands};
 
-use crate::bytes::{flag_code, high, low, lower, of_two, upper};
+use crate::bytes::{flag_code, high, low, of_two};
 use elements::values::{Element, Level, LevelType, Time};
 
 fn load_level(p: &[u8], at: usize) -> Level
@@ -44,17 +44,12 @@ pub(crate) fn load_element(p: &[u8]) -> Element
     }
 }
 
+#[tactic(auto, unfolding(crate::specs::Layout::place_stands))]
 pub(crate) fn place_stands(p: &[u8]) -> bool
     requires { place_size ≤ length p.now }
     ensures { result ≡ place_stands p.now }
 {
-    if 2 <= p[3] {
-        return false;
-    }
-    if 2 <= p[10] {
-        return false;
-    }
-    p[23] == 0
+    p[3] < 2 && p[10] < 2 && p[23] == 0
 }
 
 pub(crate) fn place_bytes(e: Element) -> [u8; 24]
@@ -74,18 +69,18 @@ pub(crate) fn place_bytes(e: Element) -> [u8; 24]
         low(e.characters),
         flag_code(x.block),
         a.unit,
-        upper(a.number),
-        lower(a.number),
+        high(a.number as u64),
+        low(a.number as u64),
         b.unit,
-        upper(b.number),
-        lower(b.number),
+        high(b.number as u64),
+        low(b.number as u64),
         flag_code(y.block),
         c.unit,
-        upper(c.number),
-        lower(c.number),
+        high(c.number as u64),
+        low(c.number as u64),
         d.unit,
-        upper(d.number),
-        lower(d.number),
+        high(d.number as u64),
+        low(d.number as u64),
         t.hours,
         t.minutes,
         code[0],

@@ -12,7 +12,7 @@ use lib.ListN.{length}
 use Rattle.bits.specs.Bits.{bits_to}
 use Rattle.bits.specs.Read.{read_bits}
 use Rattle.apdu.specs.Sizes.{buffer_least}
-use Rattle.apdu.specs.Pdus.{lent, forwards}
+use Rattle.apdu.specs.Pdus.{lent}
 use Rattle.control.specs.Control.{is_idle}
 use Rattle.control.specs.declared.Side.{Side}
 use Rattle.control.specs.declared.Control.{Control}
@@ -34,17 +34,17 @@ use Rattle.machine.specs.declared.event.ServicePrimitive.{ServicePrimitive}
 use Rattle.machine.specs.declared.event.ServicePrimitive.TheVariants.{DStartIndication}
 use Rattle.machine.specs.declared.event.Event.TheVariants.{Service}
 use Rattle.machine.specs.declared.faults.Fault.{Fault}
-use Rattle.machine.specs.declared.faults.Fault.TheVariants.{NoFault, NoInstruction, Quality, TurnedAway, Security, Missing, Invalid, NotPermitted}
+use Rattle.machine.specs.declared.faults.Fault.TheVariants.{NoInstruction, Quality, TurnedAway, Security, Missing, Invalid, NotPermitted}
 use Rattle.machine.specs.declared.outcome.Told.{Told}
 use Rattle.machine.specs.declared.outcome.Outcome.{Outcome}
 use Rattle.clauses.proofs.Ways.{by_test}
 use Rattle.numbered.specs.Numbers.{numbered_step, held_after, service_starts}
 use Rattle.numbered.proofs.Laws.{higher_start}
-use Rattle.stored.specs.Stored.{record_bytes, record_bits, job_bit, job_bits, number_bit, number_bits, head_of, with_numbers, load_at, store_at}
-use Rattle.stored.specs.declared.Loaded.TheVariants.{Is, NoRecord}
+use Rattle.stored.specs.Stored.{record_bytes, record_bits, job_bit, job_bits, number_bit, number_bits, head_of, with_numbers, load_at, store_at, is_stored}
 use Rattle.stored.proofs.Storing.{Coded, loaded_stored}
 use Rattle.step.proofs.Fitting.{read_fits}
 use Rattle.step.specs.Call.{Carried, finished, concluded, with_record, entering, event_step, read_pdu, meaning, data_step, bare_step, service_step, service_call, service_by}
+use Rattle.std.specs.Prelude.{None, Option, Some}
 
 -- ---- a D-START indication is never refused, and leaves a record whose codes are of their types
 
@@ -56,11 +56,11 @@ module _ (r : Record) (k : Coded r) where
   unfolding enter
   entered_coded c = record { request = k.request; policy = k.policy; least = k.least; most = k.most; highest = k.highest }
 
-  closes_fine : (t : Told) → Fine (closes r t)
+  closes_fine : (t : Option Told) → Fine (closes r t)
   unfolding closes
   closes_fine t = (refl, entered_coded _)
 
-  aborts_fine : (p : ℕ) (t : Told) → Fine (aborts r p t)
+  aborts_fine : (p : ℕ) (t : Option Told) → Fine (aborts r p t)
   unfolding aborts
   aborts_fine p t = (refl, entered_coded _)
 
@@ -73,7 +73,7 @@ module _ (r : Record) (k : Coded r) where
   unfolding no_instruction
   none_fine x = by_test Fine (is_idle r.control) _ _ (λ e. closes_fine _) (λ e. excepts_fine x _ _)
 
-  responds_fine : (x s v : ℕ) (t : Told) → Fine (responds r x s v t)
+  responds_fine : (x s v : ℕ) (t : Option Told) → Fine (responds r x s v t)
   unfolding responds
   responds_fine x s v t = (refl, entered_coded _)
 
@@ -82,7 +82,7 @@ module _ (r : Record) (k : Coded r) where
   forward_fine s v = by_test Fine (not r.forwards) _ _ (λ e. responds_fine _ s _ _)
       (λ e. by_test Fine (eqb v r.version) _ _ (λ f. responds_fine _ s _ _) (λ f. responds_fine _ s _ _))
 
-  handed_fine : (p : Primitive) (t : Told) → Fine (handed r p t)
+  handed_fine : (p : Primitive) (t : Option Told) → Fine (handed r p t)
   unfolding handed
   handed_fine p t = (refl, entered_coded _)
 
@@ -90,17 +90,17 @@ user_coded : (r : Record) (on : Bool) → Coded r → Coded (with_user r on)
 user_coded r on k = record { request = k.request; policy = k.policy; least = k.least; most = k.most; highest = k.highest }
 
 module _ (sd : Side) (r : Record) (k : Coded r) (x s : ℕ) (q : Qos) (w : ℕ) where
-  answered_fine : (a : UserData) (f : Fault) → Fine (answered r (DStartIndication x s q w) a f)
+  answered_fine : (a : UserData) (f : Option Fault) → Fine (answered r (DStartIndication x s q w) a f)
   unfolding answered instructed
-  answered_fine a NoFault = by_test Fine (is_forward a) _ _ (λ e. forward_fine r k s w)
+  answered_fine a None = by_test Fine (is_forward a) _ _ (λ e. forward_fine r k s w)
       (λ e. handed_fine (with_user r true) (user_coded r true k) _ _)
-  answered_fine a (NoInstruction live) = none_fine r k live
-  answered_fine a Quality = aborts_fine r k _ _
-  answered_fine a TurnedAway = closes_fine r k _
-  answered_fine a (Security live) = excepts_fine r k live _ _
-  answered_fine a Missing = excepts_fine r k true _ _
-  answered_fine a (Invalid live) = excepts_fine r k live _ _
-  answered_fine a (NotPermitted live) = excepts_fine r k live _ _
+  answered_fine a (Some (NoInstruction live)) = none_fine r k live
+  answered_fine a (Some Quality) = aborts_fine r k _ _
+  answered_fine a (Some TurnedAway) = closes_fine r k _
+  answered_fine a (Some (Security live)) = excepts_fine r k live _ _
+  answered_fine a (Some Missing) = excepts_fine r k true _ _
+  answered_fine a (Some (Invalid live)) = excepts_fine r k live _ _
+  answered_fine a (Some (NotPermitted live)) = excepts_fine r k live _ _
 
   reached_fine : (a : UserData) → Fine (reached sd r (DStartIndication x s q w) a)
   unfolding reached
@@ -111,9 +111,9 @@ module _ (sd : Side) (r : Record) (k : Coded r) (x s : ℕ) (q : Qos) (w : ℕ) 
 -- the bytes are those of a record that holds the number
 pub record Holds (sd : Side) (b : List ℕ) (v : ℕ) : Type 0 where
   pub rec : Record
-  pub load : load_at b ≡ Is sd rec v
+  pub load : load_at b ≡ is_stored sd rec v
 
-module _ (r a b : List ℕ) (sd : Side) (x : Record) (n v : ℕ) (load : load_at r ≡ Is sd x n) (coded : Coded x) (first : buffer_least ≤ length a) (second : buffer_least ≤ length b)
+module _ (r a b : List ℕ) (sd : Side) (x : Record) (n v : ℕ) (load : load_at r ≡ is_stored sd x n) (coded : Coded x) (first : buffer_least ≤ length a) (second : buffer_least ≤ length b)
     (y s : ℕ) (q : Qos) (w : ℕ) (fits : service_fits (DStartIndication y s q w) ≡ true) (above : n < v) (top : v < 2 ^ 64) where
   abbrev p : ServicePrimitive
   p = DStartIndication y s q w
@@ -123,7 +123,7 @@ module _ (r a b : List ℕ) (sd : Side) (x : Record) (n v : ℕ) (load : load_at
   size = by (eqb (length r) record_bytes) refl load
     where
       by : (t : Bool) → eqb (length r) record_bytes ≡ t
-          → cond (t && head_of r) (with_numbers r (read_bits (bits_to r record_bits) job_bit job_bits) (read_bits (bits_to r record_bits) number_bit number_bits)) NoRecord ≡ Is sd x n
+          → cond (t && head_of r) (with_numbers r (read_bits (bits_to r record_bits) job_bit job_bits) (read_bits (bits_to r record_bits) number_bit number_bits)) None ≡ is_stored sd x n
           → length r ≡ record_bytes
       by true e h = eqb-true (length r) record_bytes e
       by false e h = let z : ◌≡◌ {A = ℕ} 0 1 = cc in absurd (omega arith)

@@ -16,6 +16,7 @@ pub(crate) const ACCEPTED: u64 = 0;
 // CPDLCUserAbortReason, where none is given.
 pub(crate) const UNDEFINED: u64 = 0;
 
+#[tactic(auto, unfolding(crate::specs::Calls::reply_of))]
 pub(crate) fn reply_of(res: u64) -> Reply
     ensures { result ≡ reply_of res }
 {
@@ -27,12 +28,13 @@ pub(crate) fn reply_of(res: u64) -> Reply
 }
 
 // The control goes where the call leads; a primitive is invoked with an APDU.
-fn sent(r: Record, call: Call, invoked: Invoked, apdu: UserData) -> Outcome
+#[tactic(auto, unfolding(crate::specs::Calls::sent))]
+fn sent(r: Record, call: Call, invoked: Option<Invoked>, apdu: UserData) -> Outcome
     ensures { result ≡ sent r call invoked apdu }
 {
     let c = r.control;
     let n = r.enter(goes(c, call));
-    Outcome::taken(n, invoked, Told::Untold, apdu, false)
+    Outcome::taken(n, invoked, None, apdu, false)
 }
 
 // The security value that a D-START carries: none where they are not compared.
@@ -40,20 +42,24 @@ pub(crate) fn security_sent(edition: Edition, security: u64) -> u64
     ensures { result ≡ security_sent (secures edition) security }
 {
     if edition.secures() {
-        return security;
+        security
+    } else {
+        Record::NO_SECURITY
     }
-    Record::NO_SECURITY
 }
 
+#[tactic(auto, unfolding(crate::specs::Calls::start_request))]
 fn start_request(r: Record, dsc: bool, class: u64, security: u64) -> Outcome
     ensures { result ≡ start_request r dsc class security }
 {
     let edition = r.edition;
     let asked = security_sent(edition, security);
-    let mut n = r;
-    n.timer = true;
-    n.active = true;
-    n.request = asked;
+    let n = Record {
+        timer: true,
+        active: true,
+        request: asked,
+        ..r
+    };
     let q = Qos {
         priority: Qos::HIGH_PRIORITY,
         rer: Qos::LOW_ERROR_RATE,
@@ -62,7 +68,7 @@ fn start_request(r: Record, dsc: bool, class: u64, security: u64) -> Outcome
     sent(
         n,
         Call::StartRequest(dsc),
-        Invoked::DStartRequest(q, asked),
+        Some(Invoked::DStartRequest(q, asked)),
         UserData::Start(dsc),
     )
 }
@@ -71,15 +77,14 @@ fn start_request(r: Record, dsc: bool, class: u64, security: u64) -> Outcome
 fn unless_spared(edition: Edition, holds: bool) -> UserData
     ensures { result ≡ unless_spared (spares edition) holds }
 {
-    if edition.spares() {
-        if holds {
-            return UserData::Send;
-        }
-        return UserData::Absent;
+    if edition.spares() && !holds {
+        UserData::Absent
+    } else {
+        UserData::Send
     }
-    UserData::Send
 }
 
+#[tactic(auto, unfolding(crate::specs::Calls::start_response))]
 fn start_response(r: Record, dsc: bool, res: u64, holds: bool) -> Outcome
     ensures { result ≡ start_response r dsc res holds }
 {
@@ -89,24 +94,24 @@ fn start_response(r: Record, dsc: bool, res: u64, holds: bool) -> Outcome
     sent(
         r,
         Call::StartResponse(dsc, a),
-        Invoked::DStartResponse(res, answered),
+        Some(Invoked::DStartResponse(res, answered)),
         unless_spared(edition, holds),
     )
 }
 
+#[tactic(auto, unfolding(crate::specs::Calls::message_request))]
 fn message_request(r: Record, job: u64) -> Outcome
     ensures { result ≡ message_request r job }
 {
-    let mut n = r;
-    n.highest = job;
     sent(
-        n,
+        Record { highest: job, ..r },
         Call::MessageRequest,
-        Invoked::DDataRequest,
+        Some(Invoked::DDataRequest),
         UserData::Send,
     )
 }
 
+#[tactic(auto, unfolding(crate::specs::Calls::end_request))]
 fn end_request(r: Record, dsc: bool, holds: bool) -> Outcome
     ensures { result ≡ end_request r dsc holds }
 {
@@ -114,11 +119,12 @@ fn end_request(r: Record, dsc: bool, holds: bool) -> Outcome
     sent(
         r,
         Call::EndRequest(dsc),
-        Invoked::DEndRequest,
+        Some(Invoked::DEndRequest),
         unless_spared(edition, holds),
     )
 }
 
+#[tactic(auto, unfolding(crate::specs::Calls::end_response))]
 fn end_response(r: Record, dsc: bool, res: u64, holds: bool) -> Outcome
     ensures { result ≡ end_response r dsc res holds }
 {
@@ -127,7 +133,7 @@ fn end_response(r: Record, dsc: bool, res: u64, holds: bool) -> Outcome
     sent(
         r,
         Call::EndResponse(dsc, a),
-        Invoked::DEndResponse(res),
+        Some(Invoked::DEndResponse(res)),
         unless_spared(edition, holds),
     )
 }
@@ -139,6 +145,7 @@ fn reason_sent(given: bool, reason: u64) -> u64
     if given { reason } else { UNDEFINED }
 }
 
+#[tactic(auto, unfolding(crate::specs::Calls::user_abort))]
 fn user_abort(r: Record, given: bool, reason: u64) -> Outcome
     ensures { result ≡ user_abort r given reason }
 {
@@ -146,12 +153,13 @@ fn user_abort(r: Record, given: bool, reason: u64) -> Outcome
     sent(
         r,
         Call::UserAbort,
-        Invoked::DAbortRequest(ServicePrimitive::USER),
+        Some(Invoked::DAbortRequest(ServicePrimitive::USER)),
         UserData::AbortUser(x),
     )
 }
 
 // What it is to the control.
+#[tactic(auto, unfolding(crate::specs::Calls::call_of))]
 pub(crate) fn call_of(u: UserPrimitive) -> Call
     ensures { result ≡ call_of u }
 {
@@ -172,28 +180,21 @@ pub(crate) fn call_of(u: UserPrimitive) -> Call
 }
 
 // A message request without a CPDLC message, then one whose job is not above the highest taken.
-pub(crate) fn unsent(highest: u64, u: UserPrimitive) -> StepRefusal
+#[tactic(auto, unfolding(crate::specs::Calls::unsent))]
+pub(crate) fn unsent(highest: u64, u: UserPrimitive) -> Option<StepRefusal>
     ensures { result ≡ unsent highest u }
 {
     match u {
-        UserPrimitive::StartServiceRequest(_, _, _) => StepRefusal::None,
-        UserPrimitive::StartServiceResponse(_, _, _) => StepRefusal::None,
-        UserPrimitive::MessageServiceRequest(holds, job) => {
-            if !holds {
-                return StepRefusal::NoMessage;
-            }
-            if job <= highest {
-                return StepRefusal::Repeat;
-            }
-            StepRefusal::None
-        }
-        UserPrimitive::EndServiceRequest(_, _) => StepRefusal::None,
-        UserPrimitive::EndServiceResponse(_, _, _) => StepRefusal::None,
-        UserPrimitive::UserAbortServiceRequest(_, _) => StepRefusal::None,
+        UserPrimitive::MessageServiceRequest(false, _) => Some(StepRefusal::NoMessage),
+        UserPrimitive::MessageServiceRequest(true, job) if job <= highest => Some(
+            StepRefusal::Repeat,
+        ),
+        _ => None,
     }
 }
 
 // A user primitive that is not refused.
+#[tactic(auto, unfolding(crate::specs::Calls::called))]
 pub(crate) fn called(r: Record, u: UserPrimitive) -> Outcome
     ensures { result ≡ called r u }
 {

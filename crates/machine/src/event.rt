@@ -1,7 +1,7 @@
 // The events: user requests and responses, dialogue-service primitives with their parameters and user data, timer expiry, system error.
 ghost use Rattle.std.specs.Prelude.{◌≡◌};
 ghost use Rattle.editions.specs.Editions.{spares};
-ghost use Rattle.machine.specs.UserData.{kind_of, mode_of, reason_of, user_data_fits};
+ghost use Rattle.machine.specs.UserData.{mode_of, reason_of, user_data_fits};
 ghost use Rattle.machine.specs.Event.{is_dsc, has_mode, qos_fits, answer_fits, user_fits, service_fits, event_fits};
 
 use crate::calls::ACCEPTED;
@@ -67,6 +67,7 @@ pub enum ServicePrimitive {
     DPAbortIndication,
 }
 
+// A code is a u64, and any is taken: one that its type does not have is answered with SHAPE.
 #[derive(Clone, Copy)]
 pub enum Event {
     User(UserPrimitive),
@@ -79,58 +80,18 @@ pub enum Event {
 }
 
 impl UserData {
-    // The kinds that are asked for, as `kind` numbers them.
-    pub const ABSENT: u64 = 0;
-
-    pub const NOT_VALID: u64 = 1;
-
-    pub const START: u64 = 2;
-
-    pub const SEND: u64 = 3;
-
-    pub const ABORT_USER: u64 = 4;
-
-    pub const ABORT_PROVIDER: u64 = 5;
-
-    pub const FORWARD: u64 = 6;
-
-    pub const FORWARD_RESPONSE: u64 = 7;
-
     // The values of CPDLCProviderAbortReason.
-
     pub(crate) const PROVIDER_REASONS: u64 = 8;
     // The values of ATCForwardResponse.
     pub(crate) const FORWARD_RESULTS: u64 = 3;
-
-    // Which kind it is.
-    pub fn kind(self) -> u64
-        ensures { result ≡ kind_of self }
-    {
-        match self {
-            UserData::Absent => 0,
-            UserData::NotValid => 1,
-            UserData::Start(_) => 2,
-            UserData::Send => 3,
-            UserData::AbortUser(_) => 4,
-            UserData::AbortProvider(_) => 5,
-            UserData::Forward => 6,
-            UserData::ForwardResponse(_) => 7,
-        }
-    }
 
     // The mode of a start (true: dsc).
     pub fn mode(self) -> bool
         ensures { result ≡ mode_of self }
     {
         match self {
-            UserData::Absent => false,
-            UserData::NotValid => false,
             UserData::Start(dsc) => dsc,
-            UserData::Send => false,
-            UserData::AbortUser(_) => false,
-            UserData::AbortProvider(_) => false,
-            UserData::Forward => false,
-            UserData::ForwardResponse(_) => false,
+            _ => false,
         }
     }
 
@@ -139,32 +100,22 @@ impl UserData {
         ensures { result ≡ reason_of self }
     {
         match self {
-            UserData::Absent => 0,
-            UserData::NotValid => 0,
-            UserData::Start(_) => 0,
-            UserData::Send => 0,
-            UserData::AbortUser(reason) => reason,
-            UserData::AbortProvider(reason) => reason,
-            UserData::Forward => 0,
-            UserData::ForwardResponse(result) => result,
+            UserData::AbortUser(x) | UserData::AbortProvider(x) | UserData::ForwardResponse(x) => x,
+            _ => 0,
         }
     }
 
     // Is its reason or its result of its type?
+    #[tactic(auto, unfolding(crate::specs::UserData::user_data_fits))]
     pub(crate) fn fits(self, edition: Edition) -> bool
         ensures { result ≡ user_data_fits edition self }
     {
-        let kind = self.kind();
-        if kind == UserData::ABORT_USER {
-            return self.reason() < edition.user_reasons();
+        match self {
+            UserData::AbortUser(reason) => reason < edition.user_reasons(),
+            UserData::AbortProvider(reason) => reason < UserData::PROVIDER_REASONS,
+            UserData::ForwardResponse(result) => result < UserData::FORWARD_RESULTS,
+            _ => true,
         }
-        if kind == UserData::ABORT_PROVIDER {
-            return self.reason() < UserData::PROVIDER_REASONS;
-        }
-        if kind == UserData::FORWARD_RESPONSE {
-            return self.reason() < UserData::FORWARD_RESULTS;
-        }
-        true
     }
 }
 
@@ -175,16 +126,13 @@ impl Qos {
 
     pub const ROUTING_CLASSES: u64 = 9;
 
+    #[tactic(auto, unfolding(crate::specs::Event::qos_fits))]
     pub fn fits(self) -> bool
         ensures { result ≡ qos_fits self }
     {
-        if self.priority != Qos::HIGH_PRIORITY {
-            return false;
-        }
-        if self.rer != Qos::LOW_ERROR_RATE {
-            return false;
-        }
-        self.routing < Qos::ROUTING_CLASSES
+        self.priority == Qos::HIGH_PRIORITY
+            && self.rer == Qos::LOW_ERROR_RATE
+            && self.routing < Qos::ROUTING_CLASSES
     }
 }
 
@@ -195,6 +143,7 @@ pub fn is_dsc(mode: u64) -> bool
 }
 
 // Has a start request at this side the mode? The ground machine has no downstream mode.
+#[tactic(auto, unfolding(crate::specs::Event::has_mode))]
 fn has_mode(side: Side, mode: u64) -> bool
     ensures { result ≡ has_mode side mode }
 {
@@ -205,13 +154,7 @@ fn has_mode(side: Side, mode: u64) -> bool
 fn answer_fits(edition: Edition, res: u64, holds: bool) -> bool
     ensures { result ≡ answer_fits (spares edition) res holds }
 {
-    if edition.spares() {
-        if res == ACCEPTED {
-            return !holds;
-        }
-        return res < UserPrimitive::RESULTS;
-    }
-    res < UserPrimitive::RESULTS
+    !(edition.spares() && res == ACCEPTED && holds) && res < UserPrimitive::RESULTS
 }
 
 impl UserPrimitive {
@@ -224,15 +167,15 @@ impl UserPrimitive {
 
     pub(crate) const RESULTS: u64 = 2;
 
+    #[tactic(auto, unfolding(crate::specs::Event::user_fits))]
     pub fn fits(self, side: Side, edition: Edition) -> bool
         ensures { result ≡ user_fits side edition self }
     {
         match self {
             UserPrimitive::StartServiceRequest(mode, class, security) => {
-                if !has_mode(side, mode) {
-                    return false;
-                }
-                class < Qos::ROUTING_CLASSES && security < Configuration::SECURITY_VALUES
+                has_mode(side, mode)
+                    && class < Qos::ROUTING_CLASSES
+                    && security < Configuration::SECURITY_VALUES
             }
             UserPrimitive::StartServiceResponse(_, result, holds) => answer_fits(
                 edition, result, holds,
@@ -274,44 +217,36 @@ impl ServicePrimitive {
 
     pub(crate) const VERSIONS: u64 = 256;
 
+    #[tactic(auto, unfolding(crate::specs::Event::service_fits))]
     pub fn fits(self) -> bool
         ensures { result ≡ service_fits self }
     {
         match self {
             ServicePrimitive::DStartIndication(peer, security, _, version) => {
-                if ServicePrimitive::PEERS <= peer {
-                    return false;
-                }
-                if Configuration::SECURITY_VALUES <= security {
-                    return false;
-                }
-                version < ServicePrimitive::VERSIONS
+                peer < ServicePrimitive::PEERS
+                    && security < Configuration::SECURITY_VALUES
+                    && version < ServicePrimitive::VERSIONS
             }
             ServicePrimitive::DStartConfirmation(result, source, security, version) => {
-                if ServicePrimitive::START_RESULTS <= result {
-                    return false;
-                }
-                if ServicePrimitive::SOURCES <= source {
-                    return false;
-                }
-                if Configuration::SECURITY_VALUES <= security {
-                    return false;
-                }
-                version < ServicePrimitive::VERSIONS
+                result < ServicePrimitive::START_RESULTS
+                    && source < ServicePrimitive::SOURCES
+                    && security < Configuration::SECURITY_VALUES
+                    && version < ServicePrimitive::VERSIONS
             }
-            ServicePrimitive::DDataIndication => true,
-            ServicePrimitive::DEndIndication => true,
             ServicePrimitive::DEndConfirmation(result) => result < ServicePrimitive::END_RESULTS,
             ServicePrimitive::DAbortIndication(originator) => {
                 originator < ServicePrimitive::ORIGINATORS
             }
-            ServicePrimitive::DPAbortIndication => true,
+            ServicePrimitive::DDataIndication
+            | ServicePrimitive::DEndIndication
+            | ServicePrimitive::DPAbortIndication => true,
         }
     }
 }
 
 impl Event {
     // Are its codes of their types? SHAPE is answered otherwise.
+    #[tactic(auto, unfolding(crate::specs::Event::event_fits))]
     pub fn fits(self, side: Side, edition: Edition) -> bool
         ensures { result ≡ event_fits side edition self }
     {
@@ -321,8 +256,7 @@ impl Event {
                 class < Qos::ROUTING_CLASSES && security < Configuration::SECURITY_VALUES
             }
             Event::Service(p, apdu) => p.fits() && apdu.fits(edition),
-            Event::TimerExpires => true,
-            Event::UnrecoverableSystemError => true,
+            Event::TimerExpires | Event::UnrecoverableSystemError => true,
         }
     }
 }

@@ -7,13 +7,12 @@ ghost use Rattle.machine.specs.Faults.{pdu_fault, send_fault, differs, send_allo
 use crate::calls::{ACCEPTED, reply_of};
 use crate::event::{Qos, ServicePrimitive, UserData};
 use crate::record::Record;
-use control::{Primitive, Side, State, awaits_response, expects, is};
+use control::{Primitive, Side, State, awaits_response, expects};
 use editions::Edition;
 
 // A flag says whether the dialogue is open still, so that a D-ABORT is sent.
-#[derive(Drop)]
+#[derive(Clone, Copy)]
 pub enum Fault {
-    NoFault,
     // An unexpected state, or what else has no instruction.
     NoInstruction(bool),
     // Quality of service.
@@ -28,35 +27,42 @@ pub enum Fault {
 }
 
 // Missing, invalid, not permitted; then what is behind them. i, u: is the dialogue open for the last two; may: may there be none.
-fn pdu_fault(may: bool, fits: bool, i: bool, u: bool, apdu: UserData, behind: Fault) -> Fault
+#[tactic(auto, unfolding(crate::specs::Faults::pdu_fault))]
+fn pdu_fault(
+    may: bool,
+    fits: bool,
+    i: bool,
+    u: bool,
+    apdu: UserData,
+    behind: Option<Fault>,
+) -> Option<Fault>
     ensures { result ≡ pdu_fault may fits i u apdu behind }
 {
-    let kind = apdu.kind();
-    if kind == UserData::ABSENT {
-        if may {
-            return behind;
-        }
-        return Fault::Missing;
+    match apdu {
+        UserData::Absent if !may => Some(Fault::Missing),
+        UserData::Absent => behind,
+        UserData::NotValid => Some(Fault::Invalid(i)),
+        _ if !fits => Some(Fault::NotPermitted(u)),
+        _ => behind,
     }
-    if kind == UserData::NOT_VALID {
-        return Fault::Invalid(i);
-    }
-    if !fits {
-        return Fault::NotPermitted(u);
-    }
-    behind
 }
 
 // A primitive whose PDU is to be a send.
-fn send_fault(side: Side, r: Record, p: Primitive, may: bool, live: bool, apdu: UserData) -> Fault
+#[tactic(auto, unfolding(crate::specs::Faults::send_fault))]
+fn send_fault(
+    side: Side,
+    r: Record,
+    p: Primitive,
+    may: bool,
+    live: bool,
+    apdu: UserData,
+) -> Option<Fault>
     ensures { result ≡ send_fault side r p may live apdu }
 {
-    let c = r.control;
-    if !expects(side, c, p) {
-        return Fault::NoInstruction(true);
+    if !expects(side, r.control, p) {
+        return Some(Fault::NoInstruction(true));
     }
-    let send = apdu.kind() == UserData::SEND;
-    pdu_fault(may, send, live, live, apdu, Fault::NoFault)
+    pdu_fault(may, matches!(apdu, UserData::Send), live, live, apdu, None)
 }
 
 // A security value that is not the one it is compared with, where they are compared.
@@ -67,17 +73,15 @@ fn differs(edition: Edition, security: u64, other: u64) -> bool
 }
 
 // A D-ABORT or a D-P-ABORT, after which no dialogue exists.
-fn abort_fault(side: Side, r: Record, p: Primitive, fits: bool) -> Fault
+#[tactic(auto, unfolding(crate::specs::Faults::abort_fault))]
+fn abort_fault(side: Side, r: Record, p: Primitive, fits: bool) -> Option<Fault>
     ensures { result ≡ abort_fault side r p fits }
 {
-    let c = r.control;
-    if !expects(side, c, p) {
-        return Fault::NoInstruction(false);
+    if expects(side, r.control, p) && fits {
+        None
+    } else {
+        Some(Fault::NoInstruction(false))
     }
-    if !fits {
-        return Fault::NoInstruction(false);
-    }
-    Fault::NoFault
 }
 
 // The Calling Peer ID of a start is a facility designation at the air machine; at the ground machine an aircraft address, or a facility
@@ -85,33 +89,27 @@ fn abort_fault(side: Side, r: Record, p: Primitive, fits: bool) -> Fault
 fn peer_fits(side: Side, peer: u64) -> bool
     ensures { result ≡ peer_fits side peer }
 {
-    match side {
-        Side::Air => peer == ServicePrimitive::FACILITY,
-        Side::Ground => true,
-    }
+    side == Side::Ground || peer == ServicePrimitive::FACILITY
 }
 
 // What a facility sends to the ground machine is a forward.
 fn from_centre(side: Side, peer: u64) -> bool
     ensures { result ≡ from_centre side peer }
 {
-    match side {
-        Side::Air => false,
-        Side::Ground => peer == ServicePrimitive::FACILITY,
-    }
+    side == Side::Ground && peer == ServicePrimitive::FACILITY
 }
 
+#[tactic(auto, unfolding(crate::specs::Faults::start_fits_of))]
 fn start_fits(side: Side, r: Record, peer: u64, apdu: UserData) -> bool
     ensures { result ≡ start_fits_of side r peer apdu }
 {
-    let c = r.control;
-    if from_centre(side, peer) {
-        return apdu.kind() == UserData::FORWARD;
+    match apdu {
+        UserData::Forward => from_centre(side, peer),
+        UserData::Start(dsc) => {
+            !from_centre(side, peer) && expects(side, r.control, Primitive::DStart(dsc))
+        }
+        _ => false,
     }
-    if apdu.kind() != UserData::START {
-        return false;
-    }
-    expects(side, c, Primitive::DStart(apdu.mode()))
 }
 
 fn turned_away(res: u64, source: u64) -> bool
@@ -121,6 +119,7 @@ fn turned_away(res: u64, source: u64) -> bool
 }
 
 // A wrong calling peer comes last, and has no instruction.
+#[tactic(auto, unfolding(crate::specs::Faults::indication_fault))]
 fn indication_fault(
     side: Side,
     r: Record,
@@ -128,61 +127,66 @@ fn indication_fault(
     security: u64,
     qos: Qos,
     apdu: UserData,
-) -> Fault
+) -> Option<Fault>
     ensures { result ≡ indication_fault side r peer security qos apdu }
 {
-    let c = r.control;
-    let s = c.state;
-    let edition = r.edition;
-    if !is(s, State::Idle) {
-        return Fault::NoInstruction(true);
+    if r.control.state != State::Idle {
+        return Some(Fault::NoInstruction(true));
     }
     if !qos.fits() {
-        return Fault::Quality;
+        return Some(Fault::Quality);
     }
-    if differs(edition, security, r.policy) {
-        return Fault::Security(true);
+    if differs(r.edition, security, r.policy) {
+        return Some(Fault::Security(true));
     }
-    let fits = start_fits(side, r, peer, apdu);
-    if peer_fits(side, peer) {
-        return pdu_fault(false, fits, true, true, apdu, Fault::NoFault);
-    }
-    pdu_fault(false, fits, true, true, apdu, Fault::NoInstruction(true))
+    let behind = if peer_fits(side, peer) {
+        None
+    } else {
+        Some(Fault::NoInstruction(true))
+    };
+    pdu_fault(
+        false,
+        start_fits(side, r, peer, apdu),
+        true,
+        true,
+        apdu,
+        behind,
+    )
 }
 
 // The response to a forward: "rejected (permanent)"; for "accepted" no action is described.
-fn response_fault(r: Record, res: u64, source: u64, security: u64, apdu: UserData) -> Fault
+#[tactic(auto, unfolding(crate::specs::Faults::response_fault))]
+fn response_fault(r: Record, res: u64, source: u64, security: u64, apdu: UserData) -> Option<Fault>
     ensures { result ≡ response_fault r res source security apdu }
 {
     let open = res == ACCEPTED;
-    let edition = r.edition;
     if turned_away(res, source) {
-        return Fault::TurnedAway;
+        return Some(Fault::TurnedAway);
     }
-    if differs(edition, security, r.request) {
-        return Fault::Security(open);
+    if differs(r.edition, security, r.request) {
+        return Some(Fault::Security(open));
     }
     if open {
-        return pdu_fault(false, false, true, true, apdu, Fault::NoFault);
+        return pdu_fault(false, false, true, true, apdu, None);
     }
-    let response = apdu.kind() == UserData::FORWARD_RESPONSE;
-    pdu_fault(false, response, false, true, apdu, Fault::NoFault)
+    pdu_fault(
+        false,
+        matches!(apdu, UserData::ForwardResponse(_)),
+        false,
+        true,
+        apdu,
+        None,
+    )
 }
 
 // The PDU of a confirmation is a send; where user data may be left out, a start that is accepted has none.
 fn send_allowed(may: bool, live: bool, apdu: UserData) -> bool
     ensures { result ≡ send_allowed may live apdu }
 {
-    let send = apdu.kind() == UserData::SEND;
-    if may {
-        if live {
-            return false;
-        }
-        return send;
-    }
-    send
+    !(may && live) && matches!(apdu, UserData::Send)
 }
 
+#[tactic(auto, unfolding(crate::specs::Faults::confirmation_fault))]
 fn confirmation_fault(
     side: Side,
     r: Record,
@@ -190,44 +194,45 @@ fn confirmation_fault(
     source: u64,
     security: u64,
     apdu: UserData,
-) -> Fault
+) -> Option<Fault>
     ensures { result ≡ confirmation_fault side r res source security apdu }
 {
-    let c = r.control;
     let open = res == ACCEPTED;
-    let edition = r.edition;
-    if !expects(side, c, Primitive::DStartCnf(reply_of(res))) {
-        if awaits_response(c) {
+    if !expects(side, r.control, Primitive::DStartCnf(reply_of(res))) {
+        if awaits_response(r.control) {
             return response_fault(r, res, source, security, apdu);
         }
-        return Fault::NoInstruction(true);
+        return Some(Fault::NoInstruction(true));
     }
     if turned_away(res, source) {
-        return Fault::TurnedAway;
+        return Some(Fault::TurnedAway);
     }
-    if differs(edition, security, r.request) {
-        return Fault::Security(open);
+    if differs(r.edition, security, r.request) {
+        return Some(Fault::Security(open));
     }
-    let spared = edition.spares();
+    let spared = r.edition.spares();
     let send = send_allowed(spared, open, apdu);
-    pdu_fault(spared, send, open, true, apdu, Fault::NoFault)
+    pdu_fault(spared, send, open, true, apdu, None)
 }
 
 // Does the APDU fit the originator?
 fn abort_fits(originator: u64, apdu: UserData) -> bool
     ensures { result ≡ abort_fits originator apdu }
 {
-    let kind = apdu.kind();
-    if originator == ServicePrimitive::USER {
-        return kind == UserData::ABORT_USER;
+    match apdu {
+        UserData::AbortUser(_) => originator == ServicePrimitive::USER,
+        UserData::AbortProvider(_) => originator == ServicePrimitive::PROVIDER,
+        _ => false,
     }
-    if originator == ServicePrimitive::PROVIDER {
-        return kind == UserData::ABORT_PROVIDER;
-    }
-    false
 }
 
-pub(crate) fn first_fault(side: Side, r: Record, p: ServicePrimitive, apdu: UserData) -> Fault
+#[tactic(auto, unfolding(crate::specs::Faults::first_fault))]
+pub(crate) fn first_fault(
+    side: Side,
+    r: Record,
+    p: ServicePrimitive,
+    apdu: UserData,
+) -> Option<Fault>
     ensures { result ≡ first_fault side r p apdu }
 {
     let edition = r.edition;

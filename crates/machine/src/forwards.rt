@@ -20,15 +20,18 @@ const VERSION_NOT_EQUAL: u64 = 2;
 const NO_VERSION: u64 = 0;
 
 // t-start is started, and the user becomes active.
+#[tactic(auto, unfolding(crate::specs::Forwards::forward_request))]
 pub(crate) fn forward_request(r: Record, class: u64, security: u64) -> Outcome
     ensures { result ≡ forward_request r class security }
 {
     let edition = r.edition;
     let asked = security_sent(edition, security);
-    let mut n = r;
-    n.timer = true;
-    n.active = true;
-    n.request = asked;
+    let n = Record {
+        timer: true,
+        active: true,
+        request: asked,
+        ..r
+    };
     let q = Qos {
         priority: Qos::HIGH_PRIORITY,
         rer: Qos::LOW_ERROR_RATE,
@@ -39,15 +42,16 @@ pub(crate) fn forward_request(r: Record, class: u64, security: u64) -> Outcome
     let next = n.enter(forwarding(c));
     Outcome::taken(
         next,
-        Invoked::DStartForwardRequest(q, asked, version),
-        Told::Untold,
+        Some(Invoked::DStartForwardRequest(q, asked, version)),
+        None,
         UserData::Forward,
         false,
     )
 }
 
 // The answer in the same event; IDLE stays, and the user does not become active.
-fn responds(r: Record, res: u64, security: u64, version: u64, t: Told) -> Outcome
+#[tactic(auto, unfolding(crate::specs::Forwards::responds))]
+fn responds(r: Record, res: u64, security: u64, version: u64, t: Option<Told>) -> Outcome
     ensures { result ≡ responds r res security version t }
 {
     let edition = r.edition;
@@ -55,7 +59,7 @@ fn responds(r: Record, res: u64, security: u64, version: u64, t: Told) -> Outcom
     let n = r.enter(Control::CLOSED);
     Outcome::taken(
         n,
-        Invoked::DStartForwardResponse(answered, version),
+        Some(Invoked::DStartForwardResponse(answered, version)),
         t,
         UserData::ForwardResponse(res),
         false,
@@ -63,25 +67,32 @@ fn responds(r: Record, res: u64, security: u64, version: u64, t: Told) -> Outcom
 }
 
 // A forward message: is forwarding supported, then are the versions equal?
+#[tactic(auto, unfolding(crate::specs::Forwards::forward_arrives))]
 pub(crate) fn forward_arrives(r: Record, security: u64, version: u64) -> Outcome
     ensures { result ≡ forward_arrives r security version }
 {
-    let supported = r.forwards;
-    let own = r.version;
-    if supported {
-        if version == own {
-            return responds(r, SUCCESS, security, NO_VERSION, Told::ForwardIndication);
-        }
-        return responds(r, VERSION_NOT_EQUAL, security, own, Told::Untold);
+    if !r.forwards {
+        responds(r, SERVICE_NOT_SUPPORTED, security, NO_VERSION, None)
+    } else if version == r.version {
+        responds(
+            r,
+            SUCCESS,
+            security,
+            NO_VERSION,
+            Some(Told::ForwardIndication),
+        )
+    } else {
+        responds(r, VERSION_NOT_EQUAL, security, r.version, None)
     }
-    responds(r, SERVICE_NOT_SUPPORTED, security, NO_VERSION, Told::Untold)
 }
 
 // t-start is stopped, and the user is told.
+#[tactic(auto, unfolding(crate::specs::Forwards::forward_confirmed))]
 pub(crate) fn forward_confirmed(r: Record, res: u64, version: u64) -> Outcome
     ensures { result ≡ forward_confirmed r res version }
 {
-    let mut n = r;
-    n.timer = false;
-    closes(n, Told::ForwardConfirmation(res, version))
+    closes(
+        Record { timer: false, ..r },
+        Some(Told::ForwardConfirmation(res, version)),
+    )
 }

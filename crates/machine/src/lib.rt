@@ -25,42 +25,41 @@ use record::Record;
 
 // Has a user primitive an action here? An expiry asks whether the timer runs; a dialogue-service primitive and a system error are never
 // prohibited.
+#[tactic(auto, unfolding(crate::specs::Step::permitted))]
 fn permitted(side: Side, r: Record, e: Event) -> bool
     ensures { result ≡ permitted side r e }
 {
-    let c = r.control;
     match e {
-        Event::User(u) => takes(side, c, call_of(u)),
-        Event::Forward(_, _) => takes_forward(side, c),
-        Event::Service(_, _) => true,
+        Event::User(u) => takes(side, r.control, call_of(u)),
+        Event::Forward(_, _) => takes_forward(side, r.control),
         Event::TimerExpires => r.timer,
-        Event::UnrecoverableSystemError => true,
+        Event::Service(_, _) | Event::UnrecoverableSystemError => true,
     }
 }
 
-fn message_refusal(r: Record, e: Event) -> StepRefusal
+#[tactic(auto, unfolding(crate::specs::Step::message_refusal))]
+fn message_refusal(r: Record, e: Event) -> Option<StepRefusal>
     ensures { result ≡ message_refusal r e }
 {
     match e {
         Event::User(u) => unsent(r.highest, u),
-        Event::Forward(_, _) => StepRefusal::None,
-        Event::Service(_, _) => StepRefusal::None,
-        Event::TimerExpires => StepRefusal::None,
-        Event::UnrecoverableSystemError => StepRefusal::None,
+        _ => None,
     }
 }
 
 // The order of refusals, of an event whose codes are of their types.
-fn refusal(side: Side, r: Record, e: Event) -> StepRefusal
+#[tactic(auto, unfolding(crate::specs::Step::refusal_fitting))]
+fn refusal(side: Side, r: Record, e: Event) -> Option<StepRefusal>
     ensures { result ≡ refusal_fitting side r e }
 {
     if !permitted(side, r, e) {
-        return StepRefusal::Prohibited;
+        return Some(StepRefusal::Prohibited);
     }
     message_refusal(r, e)
 }
 
 // The clause of an event that is not refused.
+#[tactic(auto, unfolding(crate::specs::Step::acts))]
 fn acts(side: Side, r: Record, e: Event) -> Outcome
     ensures { result ≡ acts side r e }
 {
@@ -74,48 +73,48 @@ fn acts(side: Side, r: Record, e: Event) -> Outcome
 }
 
 // One event at one machine, where the caller has looked at the codes: crate `numbered` does, before it looks at the dialogue number.
+#[tactic(auto, unfolding(crate::specs::Step::step_fitting))]
 pub fn step_fitting(side: Side, r: Record, e: Event) -> Outcome
     ensures { result ≡ step_fitting side r e }
 {
-    let why = refusal(side, r, e);
-    if why.is_none() {
-        acts(side, r, e)
-    } else {
-        Outcome::refused(why, r)
+    match refusal(side, r, e) {
+        None => acts(side, r, e),
+        Some(why) => Outcome::refused(why, r),
     }
 }
 
 // The same of one kind of event each, so that a caller who knows the kind pays for no other.
+#[tactic(auto, unfolding(crate::specs::Step::step_fitting, crate::specs::Step::refusal_fitting, crate::specs::Step::permitted, crate::specs::Step::message_refusal, crate::specs::Step::acts))]
 pub fn user_fitting(side: Side, r: Record, u: UserPrimitive) -> Outcome
     ensures { result ≡ step_fitting side r (Event.User u) }
 {
-    let c = r.control;
-    if takes(side, c, call_of(u)) {
-        let why = unsent(r.highest, u);
-        if why.is_none() {
-            return called(r, u);
-        }
-        return Outcome::refused(why, r);
+    if !takes(side, r.control, call_of(u)) {
+        return Outcome::refused(StepRefusal::Prohibited, r);
     }
-    Outcome::refused(StepRefusal::Prohibited, r)
+    match unsent(r.highest, u) {
+        None => called(r, u),
+        Some(why) => Outcome::refused(why, r),
+    }
 }
 
+#[tactic(auto, unfolding(crate::specs::Step::step_fitting, crate::specs::Step::refusal_fitting, crate::specs::Step::permitted, crate::specs::Step::message_refusal, crate::specs::Step::acts))]
 pub fn forward_fitting(side: Side, r: Record, class: u64, security: u64) -> Outcome
     ensures { result ≡ step_fitting side r (Event.Forward class security) }
 {
-    let c = r.control;
-    if takes_forward(side, c) {
+    if takes_forward(side, r.control) {
         return forward_request(r, class, security);
     }
     Outcome::refused(StepRefusal::Prohibited, r)
 }
 
+#[tactic(auto, unfolding(crate::specs::Step::step_fitting, crate::specs::Step::refusal_fitting, crate::specs::Step::permitted, crate::specs::Step::message_refusal, crate::specs::Step::acts))]
 pub fn service_fitting(side: Side, r: Record, p: ServicePrimitive, apdu: UserData) -> Outcome
     ensures { result ≡ step_fitting side r (Event.Service p apdu) }
 {
     reached(side, r, p, apdu)
 }
 
+#[tactic(auto, unfolding(crate::specs::Step::step_fitting, crate::specs::Step::refusal_fitting, crate::specs::Step::permitted, crate::specs::Step::message_refusal, crate::specs::Step::acts))]
 pub fn timer_fitting(side: Side, r: Record) -> Outcome
     ensures { result ≡ step_fitting side r Event.TimerExpires }
 {
@@ -125,6 +124,7 @@ pub fn timer_fitting(side: Side, r: Record) -> Outcome
     Outcome::refused(StepRefusal::Prohibited, r)
 }
 
+#[tactic(auto, unfolding(crate::specs::Step::step_fitting, crate::specs::Step::refusal_fitting, crate::specs::Step::permitted, crate::specs::Step::message_refusal, crate::specs::Step::acts))]
 pub fn error_fitting(side: Side, r: Record) -> Outcome
     ensures { result ≡ step_fitting side r Event.UnrecoverableSystemError }
 {
@@ -132,11 +132,11 @@ pub fn error_fitting(side: Side, r: Record) -> Outcome
 }
 
 // One event at one machine.
+#[tactic(auto, unfolding(crate::specs::Step::step, crate::specs::Step::refusal_of, crate::specs::Step::step_fitting, crate::specs::Step::refusal_fitting))]
 pub fn step(side: Side, r: Record, e: Event) -> Outcome
     ensures { result ≡ step side r e }
 {
-    let edition = r.edition;
-    if !e.fits(side, edition) {
+    if !e.fits(side, r.edition) {
         return Outcome::refused(StepRefusal::Shape, r);
     }
     step_fitting(side, r, e)

@@ -1,13 +1,12 @@
 // What a call answers: a refusal, or the next record with what is invoked, told, written and delivered.
-ghost use Rattle.std.specs.Prelude.{◌≡◌};
-ghost use Rattle.machine.specs.Outcome.{refusal_number, is_none, refused, outcome};
+ghost use Rattle.std.specs.Prelude.{◌≡◌, Some};
+ghost use Rattle.machine.specs.Outcome.{refusal_number, refused, outcome};
 
 use crate::event::{Qos, UserData};
 use crate::record::Record;
 
 #[derive(Clone, Copy)]
 pub enum StepRefusal {
-    None,
     Shape,
     Stale,
     Prohibited,
@@ -18,7 +17,6 @@ pub enum StepRefusal {
 // The dialogue-service primitive that is invoked; its user data is the outcome's APDU.
 #[derive(Clone, Copy)]
 pub enum Invoked {
-    Silent,
     // Quality of Service, Security Requirements.
     DStartRequest(Qos, u64),
     // Result, Security Requirements.
@@ -38,7 +36,6 @@ pub enum Invoked {
 // The user primitive that is invoked; a flag says whether it is the DSC- (true) or the CPDLC- one.
 #[derive(Clone, Copy)]
 pub enum Told {
-    Untold,
     // Class of Communication.
     StartIndication(bool, u64),
     // Result.
@@ -57,10 +54,10 @@ pub enum Told {
 
 #[derive(Clone, Copy)]
 pub struct Outcome {
-    pub refusal: StepRefusal,
+    pub refusal: Option<StepRefusal>,
     pub next: Record,
-    pub invoked: Invoked,
-    pub told: Told,
+    pub invoked: Option<Invoked>,
+    pub told: Option<Told>,
     // The APDU to write; Absent: none.
     pub apdu: UserData,
     // Is the message data of the received APDU delivered to the user.
@@ -68,12 +65,11 @@ pub struct Outcome {
 }
 
 impl StepRefusal {
-    // Document 01's number; 0: not refused.
+    // Document 01's number.
     pub fn number(self) -> u64
-        ensures { result ≡ refusal_number self }
+        ensures { result ≡ refusal_number (Some self) }
     {
         match self {
-            StepRefusal::None => 0,
             StepRefusal::Shape => 2,
             StepRefusal::Stale => 6,
             StepRefusal::Prohibited => 3,
@@ -81,31 +77,18 @@ impl StepRefusal {
             StepRefusal::Repeat => 5,
         }
     }
-
-    pub fn is_none(self) -> bool
-        ensures { result ≡ is_none self }
-    {
-        match self {
-            StepRefusal::None => true,
-            StepRefusal::Shape => false,
-            StepRefusal::Stale => false,
-            StepRefusal::Prohibited => false,
-            StepRefusal::NoMessage => false,
-            StepRefusal::Repeat => false,
-        }
-    }
 }
 
 impl Outcome {
     // A refused call: the record as it was, and nothing else.
     pub fn refused(why: StepRefusal, r: Record) -> Outcome
-        ensures { result ≡ refused why r }
+        ensures { result ≡ refused (Some why) r }
     {
         Outcome {
-            refusal: why,
+            refusal: Some(why),
             next: r,
-            invoked: Invoked::Silent,
-            told: Told::Untold,
+            invoked: None,
+            told: None,
             apdu: UserData::Absent,
             delivers: false,
         }
@@ -114,15 +97,15 @@ impl Outcome {
     // What is not refused.
     pub(crate) fn taken(
         r: Record,
-        invoked: Invoked,
-        told: Told,
+        invoked: Option<Invoked>,
+        told: Option<Told>,
         apdu: UserData,
         delivers: bool,
     ) -> Outcome
         ensures { result ≡ outcome r invoked told apdu delivers }
     {
         Outcome {
-            refusal: StepRefusal::None,
+            refusal: None,
             next: r,
             invoked,
             told,

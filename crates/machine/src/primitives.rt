@@ -18,117 +18,122 @@ use crate::record::Record;
 use control::{Primitive, Side, after};
 
 // The control goes where the primitive leads; the user is told, with the message data.
-fn handed(r: Record, p: Primitive, t: Told) -> Outcome
+#[tactic(auto, unfolding(crate::specs::Primitives::handed))]
+fn handed(r: Record, p: Primitive, t: Option<Told>) -> Outcome
     ensures { result ≡ handed r p t }
 {
-    let c = r.control;
-    let n = r.enter(after(c, p));
-    Outcome::taken(n, Invoked::Silent, t, UserData::Absent, true)
+    let n = r.enter(after(r.control, p));
+    Outcome::taken(n, None, t, UserData::Absent, true)
 }
 
 // The user becomes active.
 fn invited(r: Record) -> Record
     ensures { result ≡ with_user r true }
 {
-    let mut n = r;
-    n.active = true;
-    n
+    Record { active: true, ..r }
 }
 
 // t-start is stopped.
 fn confirmed(r: Record) -> Record
     ensures { result ≡ with_timer r false }
 {
-    let mut n = r;
-    n.timer = false;
-    n
+    Record { timer: false, ..r }
 }
 
 // The indication with the reason of the APDU.
-fn abort_told(apdu: UserData) -> Told
+fn abort_told(apdu: UserData) -> Option<Told>
     ensures { result ≡ abort_told apdu }
 {
-    let reason = apdu.reason();
-    if apdu.kind() == UserData::ABORT_USER {
-        return Told::UserAbortIndication(reason);
+    match apdu {
+        UserData::AbortUser(reason) => Some(Told::UserAbortIndication(reason)),
+        _ => Some(Told::ProviderAbortIndication(apdu.reason())),
     }
-    Told::ProviderAbortIndication(reason)
 }
 
 // A primitive without a fault.
+#[tactic(auto, unfolding(crate::specs::Primitives::instructed))]
 fn instructed(r: Record, p: ServicePrimitive, apdu: UserData) -> Outcome
     ensures { result ≡ instructed r p apdu }
 {
-    let c = r.control;
-    let dsc = c.dsc;
+    let dsc = r.control.dsc;
     match p {
         ServicePrimitive::DStartIndication(_, security, qos, version) => {
-            if apdu.kind() == UserData::FORWARD {
+            if matches!(apdu, UserData::Forward) {
                 return forward_arrives(r, security, version);
             }
             let mode = apdu.mode();
             handed(
                 invited(r),
                 Primitive::DStart(mode),
-                Told::StartIndication(mode, qos.routing),
+                Some(Told::StartIndication(mode, qos.routing)),
             )
         }
         ServicePrimitive::DStartConfirmation(result, _, _, version) => {
-            if apdu.kind() == UserData::FORWARD_RESPONSE {
+            if matches!(apdu, UserData::ForwardResponse(_)) {
                 return forward_confirmed(r, apdu.reason(), version);
             }
             handed(
                 confirmed(r),
                 Primitive::DStartCnf(reply_of(result)),
-                Told::StartConfirmation(dsc, result),
+                Some(Told::StartConfirmation(dsc, result)),
             )
         }
-        ServicePrimitive::DDataIndication => handed(r, Primitive::DData, Told::MessageIndication),
-        ServicePrimitive::DEndIndication => handed(r, Primitive::DEnd, Told::EndIndication(dsc)),
+        ServicePrimitive::DDataIndication => handed(
+            r,
+            Primitive::DData,
+            Some(Told::MessageIndication),
+        ),
+        ServicePrimitive::DEndIndication => handed(
+            r,
+            Primitive::DEnd,
+            Some(Told::EndIndication(dsc)),
+        ),
         ServicePrimitive::DEndConfirmation(result) => handed(
             r,
             Primitive::DEndCnf(reply_of(result)),
-            Told::EndConfirmation(dsc, result),
+            Some(Told::EndConfirmation(dsc, result)),
         ),
         ServicePrimitive::DAbortIndication(_) => closes(r, tell(r, abort_told(apdu))),
         ServicePrimitive::DPAbortIndication => closes(
             r,
             tell(
                 r,
-                Told::ProviderAbortIndication(COMMUNICATION_SERVICE_FAILURE),
+                Some(Told::ProviderAbortIndication(COMMUNICATION_SERVICE_FAILURE)),
             ),
         ),
     }
 }
 
 // What is done about the first fault.
-fn answered(r: Record, p: ServicePrimitive, apdu: UserData, f: Fault) -> Outcome
+#[tactic(auto, unfolding(crate::specs::Primitives::answered))]
+fn answered(r: Record, p: ServicePrimitive, apdu: UserData, f: Option<Fault>) -> Outcome
     ensures { result ≡ answered r p apdu f }
 {
     match f {
-        Fault::NoFault => instructed(r, p, apdu),
-        Fault::NoInstruction(live) => no_instruction(r, live),
-        Fault::Quality => aborts(r, INVALID_QOS_PARAMETER, Told::Untold),
-        Fault::TurnedAway => closes(
+        None => instructed(r, p, apdu),
+        Some(Fault::NoInstruction(live)) => no_instruction(r, live),
+        Some(Fault::Quality) => aborts(r, INVALID_QOS_PARAMETER, None),
+        Some(Fault::TurnedAway) => closes(
             r,
             tell(
                 r,
-                Told::ProviderAbortIndication(COMMUNICATION_SERVICE_ERROR),
+                Some(Told::ProviderAbortIndication(COMMUNICATION_SERVICE_ERROR)),
             ),
         ),
-        Fault::Security(live) => excepts(
+        Some(Fault::Security(live)) => excepts(
             r,
             live,
             COMMUNICATION_SERVICE_FAILURE,
             COMMUNICATION_SERVICE_FAILURE,
         ),
-        Fault::Missing => excepts(r, true, EXPECTED_PDU_MISSING, NOT_PERMITTED_PDU),
-        Fault::Invalid(live) => excepts(r, live, INVALID_PDU, INVALID_PDU),
-        Fault::NotPermitted(live) => excepts(r, live, PROTOCOL_ERROR, PROTOCOL_ERROR),
+        Some(Fault::Missing) => excepts(r, true, EXPECTED_PDU_MISSING, NOT_PERMITTED_PDU),
+        Some(Fault::Invalid(live)) => excepts(r, live, INVALID_PDU, INVALID_PDU),
+        Some(Fault::NotPermitted(live)) => excepts(r, live, PROTOCOL_ERROR, PROTOCOL_ERROR),
     }
 }
 
 // A primitive of the dialogue service with its user data.
+#[tactic(auto, unfolding(crate::specs::Primitives::reached))]
 pub(crate) fn reached(side: Side, r: Record, p: ServicePrimitive, apdu: UserData) -> Outcome
     ensures { result ≡ reached side r p apdu }
 {

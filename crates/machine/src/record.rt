@@ -2,7 +2,7 @@
 ghost use Rattle.std.specs.Prelude.{◌≡◌};
 ghost use Rattle.machine.specs.Record.{fresh_record, enter};
 
-use control::{Control, State, is};
+use control::{Control, State};
 use editions::Edition;
 
 // What a record is made with.
@@ -50,7 +50,6 @@ impl Record {
     pub fn fresh(g: Configuration) -> Record
         ensures { result ≡ fresh_record g }
     {
-        let edition = g.edition;
         Record {
             control: Control::CLOSED,
             timer: false,
@@ -60,39 +59,21 @@ impl Record {
             policy: g.policy,
             forwards: g.forwards,
             version: g.version,
-            edition,
+            edition: g.edition,
         }
     }
 
     // Entering IDLE stops the timer and makes the user not active.
+    #[tactic(auto, unfolding(crate::specs::Record::enter))]
     pub(crate) fn enter(self, c: Control) -> Record
         ensures { result ≡ enter self c }
     {
-        let s = c.state;
-        let edition = self.edition;
-        if is(s, State::Idle) {
-            return Record {
-                control: c,
-                timer: false,
-                active: false,
-                highest: self.highest,
-                request: self.request,
-                policy: self.policy,
-                forwards: self.forwards,
-                version: self.version,
-                edition,
-            };
-        }
+        let busy = c.state != State::Idle;
         Record {
             control: c,
-            timer: self.timer,
-            active: self.active,
-            highest: self.highest,
-            request: self.request,
-            policy: self.policy,
-            forwards: self.forwards,
-            version: self.version,
-            edition,
+            timer: busy && self.timer,
+            active: busy && self.active,
+            ..self
         }
     }
 }

@@ -1,6 +1,6 @@
 -- What a call and a primitive do to what a record holds. It is crate pair's machine for the finite control with numbers, seen without messages (crate
 -- moves_laws has the equations).
-use Rattle.std.specs.Prelude.{ℕ, Bool, true, false, not, cond, ◌&&◌, eqb, ltb}
+use Rattle.std.specs.Prelude.{ℕ, Bool, true, false, not, cond, ◌&&◌, eqb, ltb, None, Option, Some}
 use Rattle.control.specs.declared.Side.{Side}
 use Rattle.control.specs.declared.Call.{Call}
 use Rattle.control.specs.declared.Call.TheVariants.{StartRequest, StartResponse, MessageRequest, EndRequest, EndResponse, UserAbort, TimerExpiry, SystemError}
@@ -10,7 +10,7 @@ use Rattle.control.specs.declared.Control.{Control}
 use Rattle.control.specs.Control.{takes, goes, expects, after, closed, is_idle}
 use Rattle.moves.specs.declared.Held.{Held}
 use Rattle.moves.specs.declared.Done.{Done}
-use Rattle.moves.specs.declared.Done.TheVariants.{Refused, Quiet, Shows, Sends, Aborts}
+use Rattle.moves.specs.declared.Done.TheVariants.{Quiet, Shows, Sends, Aborts}
 
 -- ---- calls
 
@@ -58,8 +58,8 @@ moved_by r u v j =
     cond (is_message u) (holding (goes r.control u) r.number j)
     (cond (is_start u) (holding (goes r.control u) v r.highest) (holding (goes r.control u) r.number r.highest))
 
-abbrev pub called_of : Side → Held → Call → ℕ → ℕ → Done
-called_of sd r u v j = cond (may_do sd r u v j) (cond (is_abort u) (Aborts (moved_by r u v j)) (Sends (moved_by r u v j))) Refused
+abbrev pub called_of : Side → Held → Call → ℕ → ℕ → Option Done
+called_of sd r u v j = cond (may_do sd r u v j) (cond (is_abort u) (Some (Aborts (moved_by r u v j))) (Some (Sends (moved_by r u v j)))) None
 
 -- ---- primitives
 
@@ -90,7 +90,7 @@ met_by sd r p =
     (cond (is_idle r.control && not (is_opening p)) (Quiet (holding closed r.number r.highest)) (Aborts (holding closed r.number r.highest)))
 
 -- a start is refused unless its number is above the record's, which then holds it; another primitive unless it has the record's
-abbrev pub received_of : Side → Held → Primitive → ℕ → Done
+abbrev pub received_of : Side → Held → Primitive → ℕ → Option Done
 received_of sd r p v =
-    cond (is_opening p) (cond (ltb r.number v) (met_by sd (holding r.control v r.highest) p) Refused)
-    (cond (eqb v r.number) (met_by sd r p) Refused)
+    cond (is_opening p) (cond (ltb r.number v) (Some (met_by sd (holding r.control v r.highest) p)) None)
+    (cond (eqb v r.number) (Some (met_by sd r p)) None)

@@ -1,22 +1,21 @@
 -- A recorded day whose every move lands on the pages that the program holds is a run of two hosts that keep their duties: the promise holds of its last pages.
 -- Assumes nothing.
-use mathlib.Core.Path.{◌≡◌, refl, ap, sym, ◌∙◌, subst}
-use mathlib.Core.Bool.{Bool, true, false}
+use mathlib.Core.Path.{◌≡◌, ap, ◌∙◌, subst}
+use mathlib.Core.Bool.{false}
 use mathlib.Core.List.{List, [], ◌∷◌}
 use Prim.Native.Nat.{ℕ}
 use Rattle.pair.specs.Names.{Side, Air, Ground, closed}
 use Rattle.pair.specs.Carrier.{Body}
-use Rattle.pair.specs.Numbered.{Numbered, mark, not_below}
-use Rattle.pair.proofs.ControlMachine.{Held, Ask, held, control}
-use Rattle.pair.proofs.NumberedMachine.{numbered}
+use Rattle.pair.specs.Numbered.{Numbered, not_below}
+use Rattle.pair.proofs.ControlMachine.{Held, Ask}
 use Rattle.duties.specs.Memory.{blank}
-use Rattle.duties.specs.Host.{right, up, Hosts, Act, Move, d_swap, d_turned, d_run, d_fresh}
+use Rattle.duties.specs.Host.{right, up, Hosts, Act, Move, d_swap, d_turned, d_run}
 use Rattle.duties.specs.Promise.{DutyPromise}
 use Rattle.duties.proofs.EndConfirmed.{answers_yes}
 use Rattle.duties.proofs.ControlHosts.{letters, control_duties}
 use Rattle.moves.specs.Machine.{holding}
 use Rattle.moves_laws.specs.Pages.{Beside, Sheet, sheet_state, Makes, MakesAll, Promised}
-use Rattle.moves_laws.proofs.Steps.{M, Page, page}
+use Rattle.moves_laws.proofs.Steps.{M, page}
 
 module _ (text : Side → ℕ → Body) (fresh : Side → Numbered Held) (from : Side) where
   -- a run ends at this sheet, with something beside it

@@ -1,31 +1,30 @@
 -- Events: a call of the user, the clock, a primitive that is handed over, the carrier's failure. (See Steps.)
 -- Assumes nothing.
-use mathlib.Core.Path.{◌≡◌, refl, ap, sym, ◌∙◌}
+use mathlib.Core.Path.{◌≡◌, ap, ◌∙◌}
 use mathlib.Core.Bool.{Bool, true, false, not, cond, ◌&&◌, ◌||◌}
 use mathlib.Core.List.{List, [], ◌∷◌, ◌++◌}
-use Prim.Native.Nat.{ℕ, zero, suc}
+use Prim.Native.Nat.{ℕ, suc}
 use native.Mathlib.Omega.{arith}
 use borrow.Author.Tests.{ltb-true}
 use lib.Dec.{eqb, ltb}
 use lib.ListN.{length}
-use Rattle.pair.specs.Names.{Side, Control, Call, StartRequest, TimerExpiry, SystemError, Accepted, Primitive, DStart, DTurnedAway, DEndCnf, DAbort, DPAbort, is_idle, closed, other, goes, sends, expects}
-use Rattle.pair.specs.Carrier.{Body, Sent, nothing, puts, message, Outcome, refused, acts, Sort, begins, breaks, plain, begins?, Step, user_call, hand_over, timer_expires_of, error_reported, turn_away, fail}
-use Rattle.pair.specs.Numbered.{NParty, NSys, Numbered, mark, more, n_cut, n_put, n_off, n_did, n_left, n_ready, n_called, n_without_start, n_may_turn_away, n_recalled, n_told_lost, n_emptied, n_failed, alive}
+use Rattle.pair.specs.Names.{Side, Control, Call, StartRequest, TimerExpiry, SystemError, DStart, DAbort, is_idle, sends}
+use Rattle.pair.specs.Carrier.{Body, nothing, puts, message, Outcome, refused, acts, Sort, begins, breaks, plain, begins?, user_call, hand_over, timer_expires_of, error_reported}
+use Rattle.pair.specs.Numbered.{NSys, Numbered, mark, more, n_cut, n_put, n_off, n_did, n_left, n_ready, n_called}
 use Rattle.pair.proofs.NumberedLines.{self, differ}
-use Rattle.pair.proofs.ControlMachine.{Held, held, Ent, ent, Ask, ask, sort_of, control}
-use Rattle.pair.proofs.NumberedMachine.{numbered}
-use Rattle.duties.specs.Memory.{Notes, tells, told_ended, told_broken}
-use Rattle.duties.specs.Host.{right, Power, up, apart, down, Host, Hosts, Act, happens, end_confirmed_of, carrier_fails, breaks?, commits, afterwards, hands_out, speaks, aborting, sees_break, happened, ending, told_of, rejoins, d_stepped}
+use Rattle.pair.proofs.ControlMachine.{Held, Ent, ent, ask, sort_of}
+use Rattle.duties.specs.Memory.{Notes, tells, told_broken}
+use Rattle.duties.specs.Host.{right, Power, up, Hosts, happens, breaks?, commits, afterwards, hands_out, speaks, aborting, d_stepped}
 use Rattle.duties.proofs.EndConfirmed.{answers_yes}
-use Rattle.duties.proofs.ControlHosts.{letters, lost_closes}
+use Rattle.duties.proofs.ControlHosts.{letters}
 use Rattle.moves.specs.declared.Held.{Held as Holds}
-use Rattle.moves.specs.declared.Done.{Done}
-use Rattle.moves.specs.declared.Done.TheVariants.{Refused, Quiet, Shows, Sends, Aborts}
-use Rattle.moves.specs.Machine.{is_message, holding, moved_by, called_of, met_by, received_of}
-use Rattle.moves_laws.proofs.Machine.{rec_of, call_done, call_is, expiry_is, error_is, arrival_done, met_is, receive_is}
+use Rattle.moves.specs.declared.Done.TheVariants.{Sends, Aborts}
+use Rattle.moves.specs.Machine.{is_message, holding, moved_by, called_of}
+use Rattle.moves_laws.proofs.Machine.{rec_of, call_done, call_is, expiry_is, error_is}
 use Rattle.moves_laws.specs.Pages.{Beside}
 use Rattle.moves_laws.specs.Pages as pages
-use Rattle.moves_laws.proofs.Steps.{M, Page, page, party_of, host_of, state_of, out_none, out_one, Lands}
+use Rattle.moves_laws.proofs.Steps.{M, Page, page, state_of, out_none, out_one, Lands}
+use Rattle.std.specs.Prelude.{None, Some}
 
 abbrev pub told_by : Bool → Holds → Holds → Notes → Notes
 told_by b r f n = pages.told_by M b (rec_of r) (rec_of f) n
@@ -59,7 +58,7 @@ module _ (text : Side → ℕ → Body) (fresh : Side → Numbered Held) where
   -- a call of the user that is no message, no start and no abort
   pub call_lands : (may : Bool) (sd : Side) (r : Holds) (l : List (Numbered Ent)) (n : Notes) (u : ℕ) (z : Page) (br : ℕ → Bool) (g k : Beside) (a : Call) (c : Control) (left : ℕ)
       → is_message a ≡ false → sort_of (sends a) ≡ plain
-      → called_of sd r a 0 0 ≡ Sends (holding c r.number r.highest)
+      → called_of sd r a 0 0 ≡ Some (Sends (holding c r.number r.highest))
       → Lands text fresh may sd (page r l n u false up) z br (happens (user_call (mark 0 (ask a [] 0)) left)) (page (holding c r.number r.highest) (l ++ (mark r.number (ent (sends a) []) ∷ [])) n (suc u) false up) z br g k
   call_lands may sd r l n u z br g k a c left m p h =
       let s : Hosts M = state_of (page r l n u false up) z br g k in
@@ -83,7 +82,7 @@ module _ (text : Side → ℕ → Body) (fresh : Side → Numbered Held) where
 
   -- an abort of the user: `left` of the entries before it in this dialogue stay on the line
   pub abort_lands : (may : Bool) (sd : Side) (r : Holds) (l : List (Numbered Ent)) (n : Notes) (u : ℕ) (z : Page) (br : ℕ → Bool) (g k : Beside) (a : Call) (c : Control) (left : ℕ)
-      → sort_of (sends a) ≡ breaks → called_of sd r a 0 0 ≡ Aborts (holding c r.number r.highest)
+      → sort_of (sends a) ≡ breaks → called_of sd r a 0 0 ≡ Some (Aborts (holding c r.number r.highest))
       → Lands text fresh may sd (page r l n u false up) z br (happens (user_call (mark 0 (ask a [] 0)) left)) (page (holding c r.number r.highest) (n_cut M left l (mark r.number (ent (sends a) []))) (tells told_broken n) (suc u) false up) z (λ (j : ℕ). eqb r.number j || br j) g k
   abort_lands may sd r l n u z br g k a c left p h =
       let s : Hosts M = state_of (page r l n u false up) z br g k in
@@ -105,7 +104,7 @@ module _ (text : Side → ℕ → Body) (fresh : Side → Numbered Held) where
   -- a start: from the side that starts, both ends IDLE, with a number above the record's
   pub start_lands : (sd : Side) (r : Holds) (l : List (Numbered Ent)) (n : Notes) (u : ℕ) (t : Holds) (y : List (Numbered Ent)) (o : Notes) (w : ℕ) (x : Bool) (d : Power) (br : ℕ → Bool) (g k : Beside) (m : Bool) (v : ℕ)
       → ltb r.number v ≡ true → (is_idle r.control && is_idle t.control) ≡ true
-      → called_of sd r (StartRequest m) v 0 ≡ Sends (moved_by r (StartRequest m) v 0)
+      → called_of sd r (StartRequest m) v 0 ≡ Some (Sends (moved_by r (StartRequest m) v 0))
       → Lands text fresh true sd (page r l n u false up) (page t y o w x d) br (happens (user_call (mark v (ask (StartRequest m) [] 0)) 0)) (page (moved_by r (StartRequest m) v 0) (l ++ (mark v (ent (DStart m) []) ∷ [])) (tells told_broken n) (suc u) false up) (page t y o w x d) br g k
   start_lands sd r l n u t y o w x d br g k m v b i h =
       let s : Hosts M = state_of (page r l n u false up) (page t y o w x d) br g k in
@@ -133,7 +132,7 @@ module _ (text : Side → ℕ → Body) (fresh : Side → Numbered Held) where
 
   -- t-start expires
   pub expiry_lands : (may : Bool) (sd : Side) (r : Holds) (l : List (Numbered Ent)) (n : Notes) (u : ℕ) (z : Page) (br : ℕ → Bool) (g k : Beside) (c : Control) (left : ℕ)
-      → called_of sd r TimerExpiry 0 0 ≡ Aborts (holding c r.number r.highest)
+      → called_of sd r TimerExpiry 0 0 ≡ Some (Aborts (holding c r.number r.highest))
       → Lands text fresh may sd (page r l n u false up) z br (happens (timer_expires_of left)) (page (holding c r.number r.highest) (n_cut M left l (mark r.number (ent DAbort []))) (tells told_broken n) (suc u) false up) z (λ (j : ℕ). eqb r.number j || br j) g k
   expiry_lands may sd r l n u z br g k c left h =
       let s : Hosts M = state_of (page r l n u false up) z br g k in
@@ -151,7 +150,7 @@ module _ (text : Side → ℕ → Body) (fresh : Side → Numbered Held) where
 
   -- a system error
   pub error_lands : (may : Bool) (sd : Side) (r : Holds) (l : List (Numbered Ent)) (n : Notes) (u : ℕ) (z : Page) (br : ℕ → Bool) (g k : Beside) (c : Control) (left : ℕ)
-      → called_of sd r SystemError 0 0 ≡ Aborts (holding c r.number r.highest)
+      → called_of sd r SystemError 0 0 ≡ Some (Aborts (holding c r.number r.highest))
       → Lands text fresh may sd (page r l n u false up) z br (happens (error_reported left)) (page (holding c r.number r.highest) (n_cut M left l (mark r.number (ent DAbort []))) (tells told_broken n) (suc u) false up) z (λ (j : ℕ). eqb r.number j || br j) g k
   error_lands may sd r l n u z br g k c left h =
       let s : Hosts M = state_of (page r l n u false up) z br g k in
@@ -169,7 +168,7 @@ module _ (text : Side → ℕ → Body) (fresh : Side → Numbered Held) where
 
   -- a system error at an IDLE end does nothing
   pub error_idle_lands : (may : Bool) (sd : Side) (r : Holds) (l : List (Numbered Ent)) (n : Notes) (u : ℕ) (z : Page) (br : ℕ → Bool) (g k : Beside) (left : ℕ)
-      → called_of sd r SystemError 0 0 ≡ Refused
+      → called_of sd r SystemError 0 0 ≡ None
       → Lands text fresh may sd (page r l n u false up) z br (happens (error_reported left)) (page r l n (suc u) false up) z br g k
   error_idle_lands may sd r l n u z br g k left h =
       let s : Hosts M = state_of (page r l n u false up) z br g k in

@@ -1,18 +1,17 @@
 -- The carrier's failure, a start that it turns away, and an end that is confirmed. (See Steps.)
 -- Assumes nothing.
-use mathlib.Core.Path.{◌≡◌, refl, ap, sym, ◌∙◌}
-use mathlib.Core.Bool.{Bool, true, false, not, cond, ◌&&◌, ◌||◌}
-use mathlib.Core.List.{List, [], ◌∷◌, ◌++◌}
-use Prim.Native.Nat.{ℕ, zero, suc}
+use mathlib.Core.Path.{◌≡◌, refl, ap, ◌∙◌}
+use mathlib.Core.Bool.{Bool, true, false, cond, ◌&&◌, ◌||◌}
+use mathlib.Core.List.{List, [], ◌∷◌}
+use Prim.Native.Nat.{ℕ, suc}
 use lib.Dec.{eqb, ltb}
 use lib.ListN.{length}
-use Rattle.pair.specs.Names.{Side, Control, Accepted, Primitive, DTurnedAway, DEndCnf, DPAbort, is_idle, closed, other, expects}
-use Rattle.pair.specs.Carrier.{Body, Sent, nothing, Outcome, refused, acts, turn_away}
+use Rattle.pair.specs.Names.{Side, Accepted, DEndCnf, is_idle, closed, other, expects}
+use Rattle.pair.specs.Carrier.{Body, nothing, Outcome, acts, turn_away}
 use Rattle.pair.specs.Numbered.{NParty, NSys, Numbered, mark, more, n_swap, n_off, n_did, n_without_start, n_may_turn_away, n_recalled, n_told_lost, alive}
-use Rattle.pair.proofs.ControlMachine.{Held, held, Ent, ent, Ask, control}
-use Rattle.pair.proofs.NumberedMachine.{numbered}
+use Rattle.pair.proofs.ControlMachine.{Held, Ent, ent}
 use Rattle.duties.specs.Memory.{Notes, tells, told_ended, told_broken}
-use Rattle.duties.specs.Host.{right, Power, up, apart, down, Host, Hosts, Act, happens, end_confirmed_of, carrier_fails, commits, afterwards, hands_out, told_of, rejoins, carrier_failed, d_stepped}
+use Rattle.duties.specs.Host.{right, Power, up, apart, down, Hosts, happens, end_confirmed_of, carrier_fails, told_of, rejoins, carrier_failed}
 use Rattle.duties.proofs.EndConfirmed.{answers_yes}
 use Rattle.duties.proofs.ControlHosts.{letters, lost_closes}
 use Rattle.moves.specs.declared.Held.{Held as Holds}

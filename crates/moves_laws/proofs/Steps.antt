@@ -1,31 +1,30 @@
 -- What the program replay does to the pages of two ends is what a step of two hosts does that keep their duties. A page has what the program holds of one end;
 -- what no page has (the histories, and what was shown) goes on beside it.
 -- Assumes nothing.
-use mathlib.Core.Path.{◌≡◌, refl, ap, sym, ◌∙◌}
+use mathlib.Core.Path.{◌≡◌, refl, ap, ◌∙◌}
 use mathlib.Core.Bool.{Bool, true, false, not, cond, ◌&&◌, ◌||◌}
 use mathlib.Core.List.{List, [], ◌∷◌, ◌++◌}
-use Prim.Native.Nat.{ℕ, zero, suc}
+use Prim.Native.Nat.{ℕ, suc}
 use native.Mathlib.Omega.{arith}
-use lib.Dec.{eqb, ltb}
+use lib.Dec.{eqb}
 use lib.ListN.{length}
-use Rattle.pair.specs.Names.{Side, Control, Call, MessageRequest, Primitive, DData, DAbort, DPAbort, is_idle, closed, other, goes, sends}
-use Rattle.pair.specs.Carrier.{Body, Sent, nothing, puts, message, Outcome, refused, acts, Step, user_call, hand_over, fail, discards, is_start}
-use Rattle.pair.specs.Numbered.{NMachine, NParty, NSys, Numbered, mark, more, n_cut, n_line, n_off, n_did, n_left, n_called, n_handed_over, n_told_lost, n_emptied, n_failed, alive}
+use Rattle.pair.specs.Names.{Side, MessageRequest, DData}
+use Rattle.pair.specs.Carrier.{Body, message, Outcome, acts, Step}
+use Rattle.pair.specs.Numbered.{NMachine, NParty, NSys, Numbered, mark, more, n_called}
 use Rattle.pair.proofs.NumberedLines.{self, differ}
-use Rattle.pair.proofs.ControlMachine.{Held, held, Ent, ent, Ask, ask, control}
+use Rattle.pair.proofs.ControlMachine.{Held, Ent, ent, Ask, control}
 use Rattle.pair.proofs.NumberedMachine.{numbered}
 use Rattle.duties.specs.Memory.{Notes, is_decided, takes, declines, tells, told_ended, told_broken, Took}
-use Rattle.duties.specs.Host.{right, Power, up, apart, down, Host, Hosts, Act, deliver, lay_aside, happens, end_confirmed_of, shows, release, acknowledge, connection_released, give_up, power_fails, cut_off, carrier_fails, Move, is_nil, less, breaks?, commits, logs, afterwards, hands_out, sends_job, taking, refusing, offered, acknowledges, in_order, settled, sees_break, happened, told_of, rejoins, carrier_failed, d_swap, d_stepped, d_turned, d_run, d_fresh}
-use Rattle.duties.specs.Promise.{DutyPromise}
+use Rattle.duties.specs.Host.{right, Power, up, apart, down, Host, Hosts, Act, deliver, lay_aside, happens, shows, release, acknowledge, connection_released, give_up, power_fails, cut_off, commits, logs, afterwards, hands_out, taking, refusing, offered, settled}
 use Rattle.duties.proofs.EndConfirmed.{answers_yes}
-use Rattle.duties.proofs.ControlHosts.{letters, lost_closes}
+use Rattle.duties.proofs.ControlHosts.{letters}
 use Rattle.moves.specs.declared.Held.{Held as Holds}
-use Rattle.moves.specs.declared.Done.{Done}
-use Rattle.moves.specs.declared.Done.TheVariants.{Refused, Quiet, Shows, Sends, Aborts}
-use Rattle.moves.specs.Machine.{is_message, holding, may_do, moved_by, called_of, met_by, received_of}
+use Rattle.moves.specs.declared.Done.TheVariants.{Sends}
+use Rattle.moves.specs.Machine.{may_do, moved_by}
 use Rattle.moves_laws.specs.Pages.{Page as PageOf, Beside, is_released}
 use Rattle.moves_laws.specs.Pages as pages
-use Rattle.moves_laws.proofs.Machine.{rec_of, call_done, call_is, arrival_done, receive_is}
+use Rattle.moves_laws.proofs.Machine.{rec_of, call_done, call_is}
+use Rattle.std.specs.Prelude.{None, Some}
 
 -- the machine
 abbrev pub M : NMachine
@@ -196,7 +195,7 @@ module _ (text : Side → ℕ → Body) (fresh : Side → Numbered Held) where
       let t : Took = record { job = j; no = r.number; body = b } in
       let f : Holds = moved_by r MessageRequest 0 j in
       let o : M.at.call sd (rec_of r) (letters text sd j) ≡ acts (rec_of f) [] (message e b j) = call_is sd r
-      MessageRequest 0 b j ∙ ap (λ (x : Bool). call_done MessageRequest b j (cond x (Sends f) Refused)) c in
+      MessageRequest 0 b j ∙ ap (λ (x : Bool). call_done MessageRequest b j (cond x (Some (Sends f)) None)) c in
       let v : Beside = record { taken = more g.taken r.number (b ∷ []); handed = more g.handed r.number []; jobs = g.jobs ++ (j ∷ []); done = g.done; log = g.log ++ (t ∷ []); seen = g.seen } in
       record {
         near = v;

@@ -1,9 +1,9 @@
 -- What the program replay holds of two ends and their hosts, and what it means that a move leads from there to there: it is a step of crate duties, whatever
 -- the program does not hold.
-use Rattle.std.specs.Prelude.{ℕ, ◌≡◌, Bool, true, false, not, cond, ◌&&◌, ◌||◌, List, [], ◌∷◌, eqb}
+use Rattle.std.specs.Prelude.{ℕ, ◌≡◌, Bool, not, cond, ◌&&◌, ◌||◌, List, [], ◌∷◌, eqb}
 use Rattle.pair.specs.Names.{Side, Air, Ground}
 use Rattle.pair.specs.Carrier.{Body, idle}
-use Rattle.pair.specs.Numbered.{NMachine, NParty, NSys, starter}
+use Rattle.pair.specs.Numbered.{NMachine, NParty, starter}
 use Rattle.duties.specs.Memory.{Notes, tells, told_broken, Took}
 use Rattle.duties.specs.Host.{right, Power, Host, Hosts, Act, Move, d_stepped}
 use Rattle.duties.specs.Promise.{DutyPromise}

@@ -1,6 +1,6 @@
 -- The machine's step with a dialogue number (document 02, E9). n: the number that the record holds; v: the one that the event brings. A
 -- user primitive other than a start, an expiry and a system error bring none, and nothing looks at their v.
-use Rattle.std.specs.Prelude.{ℕ, Bool, true, false, not, cond, ◌&&◌, ltb, eqb}
+use Rattle.std.specs.Prelude.{ℕ, Bool, true, false, not, cond, ◌&&◌, ltb, eqb, None, Option, Some}
 use Rattle.control.specs.declared.Side.{Side}
 use Rattle.machine.specs.Event.{event_fits}
 use Rattle.machine.specs.Outcome.{is_none, refused}
@@ -62,8 +62,12 @@ held_after n e v = cond (is_start e) v n
 
 -- the order of refusals: SHAPE, STALE, PROHIBITED, then NO-MESSAGE and REPEAT of a message request. (ROOM comes before them all: crate
 -- step, `entering`)
-unfoldable pub refusal_of : Side → Record → ℕ → Event → ℕ → StepRefusal
-refusal_of sd r n e v = cond (not (event_fits sd r.edition e)) Shape (cond (is_stale n e v) Stale (cond (not (permitted sd r e)) Prohibited (message_refusal r e)))
+unfoldable pub refusal_of : Side → Record → ℕ → Event → ℕ → Option StepRefusal
+refusal_of sd r n e v = cond (not (event_fits sd r.edition e)) (Some Shape) (cond (is_stale n e v) (Some Stale) (cond (not (permitted sd r e)) (Some Prohibited) (message_refusal r e)))
+
+-- the first two of them
+abbrev pub looked_over : Side → Record → ℕ → Event → ℕ → Option StepRefusal
+looked_over sd r n e v = cond (not (event_fits sd r.edition e)) (Some Shape) (cond (is_stale n e v) (Some Stale) None)
 
 unfoldable pub numbered_step : Side → Record → ℕ → Event → ℕ → Outcome
 numbered_step sd r n e v = cond (is_none (refusal_of sd r n e v)) (acts sd r e) (refused (refusal_of sd r n e v) r)

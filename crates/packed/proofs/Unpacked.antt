@@ -5,37 +5,38 @@ use Prim.Native.Nat.{ℕ, ◌*◌, ◌/◌, ◌%◌, ◌<◌}
 use native.Mathlib.Omega.{arith}
 use Rattle.machine.specs.Codes.{versions}
 use Rattle.machine.specs.declared.outcome.Invoked.{Invoked}
-use Rattle.machine.specs.declared.outcome.Invoked.TheVariants.{Silent, DStartRequest, DStartResponse, DDataRequest, DEndRequest, DEndResponse, DAbortRequest, DStartForwardRequest, DStartForwardResponse}
+use Rattle.machine.specs.declared.outcome.Invoked.TheVariants.{DStartRequest, DStartResponse, DDataRequest, DEndRequest, DEndResponse, DAbortRequest, DStartForwardRequest, DStartForwardResponse}
 use Rattle.machine.specs.declared.outcome.Told.{Told}
-use Rattle.machine.specs.declared.outcome.Told.TheVariants.{Untold, StartIndication, StartConfirmation, MessageIndication, EndIndication, EndConfirmation, UserAbortIndication, ProviderAbortIndication, ForwardIndication, ForwardConfirmation}
+use Rattle.machine.specs.declared.outcome.Told.TheVariants.{StartIndication, StartConfirmation, MessageIndication, EndIndication, EndConfirmation, UserAbortIndication, ProviderAbortIndication, ForwardIndication, ForwardConfirmation}
 use Rattle.packed.specs.Packed.{refusals, codes, primitives, counts, three, invoked_number, told_number, packed}
+use Rattle.std.specs.Prelude.{None, Option, Some}
 
 -- ---- the number's parts have room
 
-pub invoked_low : (i : Invoked) → invoked_number i < primitives
+pub invoked_low : (i : Option Invoked) → invoked_number i < primitives
 unfolding invoked_number
-invoked_low Silent = omega arith
-invoked_low (DStartRequest q s) = omega arith
-invoked_low (DStartResponse x s) = omega arith
-invoked_low DDataRequest = omega arith
-invoked_low DEndRequest = omega arith
-invoked_low (DEndResponse x) = omega arith
-invoked_low (DAbortRequest o) = omega arith
-invoked_low (DStartForwardRequest q s v) = omega arith
-invoked_low (DStartForwardResponse s v) = omega arith
+invoked_low None = omega arith
+invoked_low (Some (DStartRequest q s)) = omega arith
+invoked_low (Some (DStartResponse x s)) = omega arith
+invoked_low (Some DDataRequest) = omega arith
+invoked_low (Some DEndRequest) = omega arith
+invoked_low (Some (DEndResponse x)) = omega arith
+invoked_low (Some (DAbortRequest o)) = omega arith
+invoked_low (Some (DStartForwardRequest q s v)) = omega arith
+invoked_low (Some (DStartForwardResponse s v)) = omega arith
 
-pub told_low : (t : Told) → told_number t < primitives
+pub told_low : (t : Option Told) → told_number t < primitives
 unfolding told_number
-told_low Untold = omega arith
-told_low (StartIndication m k) = omega arith
-told_low (StartConfirmation m x) = omega arith
-told_low MessageIndication = omega arith
-told_low (EndIndication m) = omega arith
-told_low (EndConfirmation m x) = omega arith
-told_low (UserAbortIndication x) = omega arith
-told_low (ProviderAbortIndication x) = omega arith
-told_low ForwardIndication = omega arith
-told_low (ForwardConfirmation x v) = omega arith
+told_low None = omega arith
+told_low (Some (StartIndication m k)) = omega arith
+told_low (Some (StartConfirmation m x)) = omega arith
+told_low (Some MessageIndication) = omega arith
+told_low (Some (EndIndication m)) = omega arith
+told_low (Some (EndConfirmation m x)) = omega arith
+told_low (Some (UserAbortIndication x)) = omega arith
+told_low (Some (ProviderAbortIndication x)) = omega arith
+told_low (Some ForwardIndication) = omega arith
+told_low (Some (ForwardConfirmation x v)) = omega arith
 
 -- ---- the number of a call that was taken
 

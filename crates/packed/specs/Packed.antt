@@ -12,14 +12,12 @@
 --   15 bits  the bits of the APDU in the first buffer, before the padding
 --   15 bits  the bits of the message data or the forward message in the second buffer, before the padding
 --    8 bits  the version of a forward's D-START request or response, or that a forward confirmation tells; 0 where there is none
-use Rattle.std.specs.Prelude.{ℕ, ◌+◌, ◌*◌, ◌%◌, Bool, true, false, cond, eqb}
+use Rattle.std.specs.Prelude.{ℕ, ◌+◌, ◌*◌, ◌%◌, cond, eqb, None, Option, Some}
 use Rattle.machine.specs.Codes.{permanent, versions}
-use Rattle.machine.specs.declared.event.Qos.{Qos}
 use Rattle.machine.specs.declared.outcome.Invoked.{Invoked}
-use Rattle.machine.specs.declared.outcome.Invoked.TheVariants.{Silent, DStartRequest, DStartResponse, DDataRequest, DEndRequest, DEndResponse, DAbortRequest, DStartForwardRequest, DStartForwardResponse}
+use Rattle.machine.specs.declared.outcome.Invoked.TheVariants.{DStartRequest, DStartResponse, DDataRequest, DEndRequest, DEndResponse, DAbortRequest, DStartForwardRequest, DStartForwardResponse}
 use Rattle.machine.specs.declared.outcome.Told.{Told}
-use Rattle.machine.specs.declared.outcome.Told.TheVariants.{Untold, StartIndication, StartConfirmation, MessageIndication, EndIndication, EndConfirmation, UserAbortIndication, ProviderAbortIndication, ForwardIndication, ForwardConfirmation}
-use Rattle.machine.specs.declared.outcome.Outcome.{Outcome}
+use Rattle.machine.specs.declared.outcome.Told.TheVariants.{StartIndication, StartConfirmation, MessageIndication, EndIndication, EndConfirmation, UserAbortIndication, ProviderAbortIndication, ForwardIndication, ForwardConfirmation}
 use Rattle.stored.specs.Stored.{flag}
 
 -- how many numbers there are in a refusal's eight bits, a code's four, a primitive's nine, and a count's fifteen
@@ -39,54 +37,54 @@ counts = 32768
 abbrev pub three : ℕ → ℕ → ℕ → ℕ
 three code x y = code + codes * (x % codes + codes * (y % 2))
 
-unfoldable pub invoked_number : Invoked → ℕ
-invoked_number Silent = three 0 0 0
-invoked_number (DStartRequest q s) = three 1 q.routing s
-invoked_number (DStartResponse x s) = three 2 x s
-invoked_number DDataRequest = three 3 0 0
-invoked_number DEndRequest = three 4 0 0
-invoked_number (DEndResponse x) = three 5 x 0
-invoked_number (DAbortRequest o) = three 6 o 0
-invoked_number (DStartForwardRequest q s v) = three 1 q.routing s
-invoked_number (DStartForwardResponse s v) = three 2 permanent s
+unfoldable pub invoked_number : Option Invoked → ℕ
+invoked_number None = three 0 0 0
+invoked_number (Some (DStartRequest q s)) = three 1 q.routing s
+invoked_number (Some (DStartResponse x s)) = three 2 x s
+invoked_number (Some DDataRequest) = three 3 0 0
+invoked_number (Some DEndRequest) = three 4 0 0
+invoked_number (Some (DEndResponse x)) = three 5 x 0
+invoked_number (Some (DAbortRequest o)) = three 6 o 0
+invoked_number (Some (DStartForwardRequest q s v)) = three 1 q.routing s
+invoked_number (Some (DStartForwardResponse s v)) = three 2 permanent s
 
-unfoldable pub told_number : Told → ℕ
-told_number Untold = three 0 0 0
-told_number (StartIndication m k) = three 1 k (flag m)
-told_number (StartConfirmation m x) = three 2 x (flag m)
-told_number MessageIndication = three 3 0 0
-told_number (EndIndication m) = three 4 0 (flag m)
-told_number (EndConfirmation m x) = three 5 x (flag m)
-told_number (UserAbortIndication x) = three 6 x 0
-told_number (ProviderAbortIndication x) = three 7 x 0
-told_number ForwardIndication = three 8 0 0
-told_number (ForwardConfirmation x v) = three 9 x 0
+unfoldable pub told_number : Option Told → ℕ
+told_number None = three 0 0 0
+told_number (Some (StartIndication m k)) = three 1 k (flag m)
+told_number (Some (StartConfirmation m x)) = three 2 x (flag m)
+told_number (Some MessageIndication) = three 3 0 0
+told_number (Some (EndIndication m)) = three 4 0 (flag m)
+told_number (Some (EndConfirmation m x)) = three 5 x (flag m)
+told_number (Some (UserAbortIndication x)) = three 6 x 0
+told_number (Some (ProviderAbortIndication x)) = three 7 x 0
+told_number (Some ForwardIndication) = three 8 0 0
+told_number (Some (ForwardConfirmation x v)) = three 9 x 0
 
 -- the version that is sent, and the one that is told: no event has both
-abbrev pub invoked_version : Invoked → ℕ
-invoked_version Silent = 0
-invoked_version (DStartRequest q s) = 0
-invoked_version (DStartResponse x s) = 0
-invoked_version DDataRequest = 0
-invoked_version DEndRequest = 0
-invoked_version (DEndResponse x) = 0
-invoked_version (DAbortRequest o) = 0
-invoked_version (DStartForwardRequest q s v) = v
-invoked_version (DStartForwardResponse s v) = v
+abbrev pub invoked_version : Option Invoked → ℕ
+invoked_version None = 0
+invoked_version (Some (DStartRequest q s)) = 0
+invoked_version (Some (DStartResponse x s)) = 0
+invoked_version (Some DDataRequest) = 0
+invoked_version (Some DEndRequest) = 0
+invoked_version (Some (DEndResponse x)) = 0
+invoked_version (Some (DAbortRequest o)) = 0
+invoked_version (Some (DStartForwardRequest q s v)) = v
+invoked_version (Some (DStartForwardResponse s v)) = v
 
-abbrev pub told_version : Told → ℕ
-told_version Untold = 0
-told_version (StartIndication m k) = 0
-told_version (StartConfirmation m x) = 0
-told_version MessageIndication = 0
-told_version (EndIndication m) = 0
-told_version (EndConfirmation m x) = 0
-told_version (UserAbortIndication x) = 0
-told_version (ProviderAbortIndication x) = 0
-told_version ForwardIndication = 0
-told_version (ForwardConfirmation x v) = v
+abbrev pub told_version : Option Told → ℕ
+told_version None = 0
+told_version (Some (StartIndication m k)) = 0
+told_version (Some (StartConfirmation m x)) = 0
+told_version (Some MessageIndication) = 0
+told_version (Some (EndIndication m)) = 0
+told_version (Some (EndConfirmation m x)) = 0
+told_version (Some (UserAbortIndication x)) = 0
+told_version (Some (ProviderAbortIndication x)) = 0
+told_version (Some ForwardIndication) = 0
+told_version (Some (ForwardConfirmation x v)) = v
 
-abbrev pub version_number : Invoked → Told → ℕ
+abbrev pub version_number : Option Invoked → Option Told → ℕ
 version_number i t = cond (eqb (invoked_version i) 0) (told_version t) (invoked_version i)
 
 -- a call that was taken

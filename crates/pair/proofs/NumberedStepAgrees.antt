@@ -21,7 +21,7 @@ use Rattle.machine.specs.declared.event.Event.{Event}
 use Rattle.machine.specs.declared.event.Event.TheVariants.{User, Service, TimerExpires, UnrecoverableSystemError}
 use Rattle.machine.specs.declared.event.ServicePrimitive.TheVariants.{DPAbortIndication}
 use Rattle.machine.specs.declared.outcome.Invoked.{Invoked}
-use Rattle.machine.specs.declared.outcome.Invoked.TheVariants.{Silent, DStartRequest, DStartResponse, DDataRequest, DEndRequest, DEndResponse, DAbortRequest, DStartForwardRequest, DStartForwardResponse}
+use Rattle.machine.specs.declared.outcome.Invoked.TheVariants.{DStartRequest, DStartResponse, DDataRequest, DEndRequest, DEndResponse, DAbortRequest, DStartForwardRequest, DStartForwardResponse}
 use Rattle.machine.specs.declared.outcome.StepRefusal.TheVariants.{Shape, Stale}
 use Rattle.machine.specs.declared.outcome.Outcome as O
 use Rattle.numbered.specs.Numbers.{user_starts, service_starts, is_start, is_service, is_stale, held_after, numbered_step}
@@ -42,6 +42,7 @@ use Rattle.pair.proofs.NumberedNeeds.{Calm}
 use Rattle.pair.proofs.NumberedClaims.{NQuiet, control_numbered_quiet}
 use Rattle.pair.proofs.NumberedSimulate.{NAgree, n_followed, n_holds_through, n_quiet_through}
 use Rattle.pair.proofs.NumberedAgree.{with_number, step_numbered_is}
+use Rattle.std.specs.Prelude.{None, Option, Some}
 
 -- ---- the machine. What the carrier itself makes carries the number of the end that gets it
 
@@ -90,7 +91,7 @@ out_eq {R} {E} o z e = subst (λ (x : Outcome R E). OutRel (λ (r q : R). r ≡ 
 
 -- b: is it not stale; z: the outcome where it is not
 pub late : (sd : Side) (r : Numbered Record) (e : Event) (v : ℕ) (f : O.Outcome → Outcome Record Wire) (b : Bool) (z : Outcome (Numbered Record) (Numbered Wire))
-    → is_stale r.no e v ≡ not b → f (M.refused Shape r.it) ≡ refused → f (M.refused Stale r.it) ≡ refused
+    → is_stale r.no e v ≡ not b → f (M.refused (Some Shape) r.it) ≡ refused → f (M.refused (Some Stale) r.it) ≡ refused
     → (b ≡ true → z ≡ leaves (held_after r.no e v) (f (step sd r.it e))) → numberedly sd r e v f ≡ cond b z refused
 late sd r e v f true z q x y g = ap (λ (o : O.Outcome). leaves (held_after r.no e v) (f o))
     (then_step sd r.it r.no e v q) ∙ sym (g refl)
@@ -118,13 +119,13 @@ module _ (K : Codec) (ed : Edition) (p : ℕ) where
   unfolding is_stale held_after is_start is_service service_starts
   receive_same sd r w = go w.it.primitive
     where
-      ev : Invoked → Event
+      ev : Option Invoked → Event
       ev i = Service (arrives sd i) (apdu_of (K.dec (other sd) w.it.bytes))
 
       f : O.Outcome → Outcome Record Wire
       f o = happens K sd o (body_of (K.dec (other sd) w.it.bytes))
 
-      go : (i : Invoked)
+      go : (i : Option Invoked)
           → numberedly sd r (Service (arrives sd i) (apdu_of (K.dec (other sd) w.it.bytes))) w.no (λ (o : O.Outcome). happens K sd o (body_of (K.dec (other sd) w.it.bytes)))
           ≡ cond (begins? (sort_of i)) (cond (ltb r.no w.no) (leaves w.no (happens K sd
           (step sd r.it (Service (arrives sd i) (apdu_of (K.dec (other sd) w.it.bytes))))
@@ -132,24 +133,24 @@ module _ (K : Codec) (ed : Edition) (p : ℕ) where
           (cond (eqb w.no r.no) (leaves r.no (happens K sd
           (step sd r.it (Service (arrives sd i) (apdu_of (K.dec (other sd) w.it.bytes))))
           (body_of (K.dec (other sd) w.it.bytes)))) refused)
-      go Silent = late sd r (ev Silent) w.no f (eqb w.no r.no)
-          (leaves r.no (f (step sd r.it (ev Silent)))) refl refl refl (λ (e : _). refl)
-      go (DStartRequest q s) = late sd r (ev (DStartRequest q s)) w.no f (ltb r.no w.no)
-          (leaves w.no (f (step sd r.it (ev (DStartRequest q s))))) refl refl refl (λ (e : _). refl)
-      go (DStartResponse x s) = late sd r (ev (DStartResponse x s)) w.no f (eqb w.no r.no)
-          (leaves r.no (f (step sd r.it (ev (DStartResponse x s))))) refl refl refl (λ (e : _). refl)
-      go DDataRequest = late sd r (ev DDataRequest) w.no f (eqb w.no r.no)
-          (leaves r.no (f (step sd r.it (ev DDataRequest)))) refl refl refl (λ (e : _). refl)
-      go DEndRequest = late sd r (ev DEndRequest) w.no f (eqb w.no r.no)
-          (leaves r.no (f (step sd r.it (ev DEndRequest)))) refl refl refl (λ (e : _). refl)
-      go (DEndResponse x) = late sd r (ev (DEndResponse x)) w.no f (eqb w.no r.no)
-          (leaves r.no (f (step sd r.it (ev (DEndResponse x))))) refl refl refl (λ (e : _). refl)
-      go (DAbortRequest x) = late sd r (ev (DAbortRequest x)) w.no f (eqb w.no r.no)
-          (leaves r.no (f (step sd r.it (ev (DAbortRequest x))))) refl refl refl (λ (e : _). refl)
-      go (DStartForwardRequest q s v) = late sd r (ev (DStartForwardRequest q s v)) w.no f (ltb r.no w.no)
-          (leaves w.no (f (step sd r.it (ev (DStartForwardRequest q s v))))) refl refl refl (λ (e : _). refl)
-      go (DStartForwardResponse s v) = late sd r (ev (DStartForwardResponse s v)) w.no f (eqb w.no r.no)
-          (leaves r.no (f (step sd r.it (ev (DStartForwardResponse s v))))) refl refl refl (λ (e : _). refl)
+      go None = late sd r (ev None) w.no f (eqb w.no r.no)
+          (leaves r.no (f (step sd r.it (ev None)))) refl refl refl (λ (e : _). refl)
+      go (Some (DStartRequest q s)) = late sd r (ev (Some (DStartRequest q s))) w.no f (ltb r.no w.no)
+          (leaves w.no (f (step sd r.it (ev (Some (DStartRequest q s)))))) refl refl refl (λ (e : _). refl)
+      go (Some (DStartResponse x s)) = late sd r (ev (Some (DStartResponse x s))) w.no f (eqb w.no r.no)
+          (leaves r.no (f (step sd r.it (ev (Some (DStartResponse x s)))))) refl refl refl (λ (e : _). refl)
+      go (Some DDataRequest) = late sd r (ev (Some DDataRequest)) w.no f (eqb w.no r.no)
+          (leaves r.no (f (step sd r.it (ev (Some DDataRequest))))) refl refl refl (λ (e : _). refl)
+      go (Some DEndRequest) = late sd r (ev (Some DEndRequest)) w.no f (eqb w.no r.no)
+          (leaves r.no (f (step sd r.it (ev (Some DEndRequest))))) refl refl refl (λ (e : _). refl)
+      go (Some (DEndResponse x)) = late sd r (ev (Some (DEndResponse x))) w.no f (eqb w.no r.no)
+          (leaves r.no (f (step sd r.it (ev (Some (DEndResponse x)))))) refl refl refl (λ (e : _). refl)
+      go (Some (DAbortRequest x)) = late sd r (ev (Some (DAbortRequest x))) w.no f (eqb w.no r.no)
+          (leaves r.no (f (step sd r.it (ev (Some (DAbortRequest x)))))) refl refl refl (λ (e : _). refl)
+      go (Some (DStartForwardRequest q s v)) = late sd r (ev (Some (DStartForwardRequest q s v))) w.no f (ltb r.no w.no)
+          (leaves w.no (f (step sd r.it (ev (Some (DStartForwardRequest q s v)))))) refl refl refl (λ (e : _). refl)
+      go (Some (DStartForwardResponse s v)) = late sd r (ev (Some (DStartForwardResponse s v))) w.no f (eqb w.no r.no)
+          (leaves r.no (f (step sd r.it (ev (Some (DStartForwardResponse s v)))))) refl refl refl (λ (e : _). refl)
 
   -- ---- a call
 

@@ -23,6 +23,7 @@ use Rattle.pair.specs.Names.{Side, Air, Ground, Dialogue, End, entered, closed}
 use Rattle.pair.specs.Carrier.{Body, user_call, hand_over, timer_expires_of, Turn}
 use Rattle.pair.proofs.OneDialogue.{Sys, fresh, run, is_nil}
 use Rattle.pair.proofs.StepMachine.{end_response_of, Read, got, fault, Codec, Order, start_request_of, start_response_of, message_request_of, end_request_of, step_machine, fresh_with}
+use Rattle.std.specs.Prelude.{Some}
 
 abbrev fits : Side → UserData → Body → Bool
 fits sd Absent b = is_nil b
@@ -96,7 +97,7 @@ after ts = run (step_machine sample 1) (fresh (step_machine sample 1) (fresh_wit
 pub bytes_run :
     ((after turns).here.rec.control ≡ entered End true) × ((after turns).there.rec.control ≡ entered Dialogue true) ×
     ((after turns).here.taken ≡ (5 ∷ []) ∷ (6 ∷ []) ∷ []) × ((after turns).there.handed ≡ (5 ∷ []) ∷ [])
-    × ((after turns).here.jobs ≡ 1 ∷ 2 ∷ []) × ((after turns).here.line ≡ record { primitive = DDataRequest; bytes = 2 ∷ (0 ∷ (6 ∷ [])) } ∷ (record { primitive = DEndRequest; bytes = 2 ∷ (0 ∷ []) } ∷ []))
+    × ((after turns).here.jobs ≡ 1 ∷ 2 ∷ []) × ((after turns).here.line ≡ record { primitive = Some DDataRequest; bytes = 2 ∷ (0 ∷ (6 ∷ [])) } ∷ (record { primitive = Some DEndRequest; bytes = 2 ∷ (0 ∷ []) } ∷ []))
 unfolding run step refusal_of event_fits user_fits has_mode service_fits user_data_fits permitted call_of message_refusal unsent
     acts called reached start_request start_response message_request end_request sent reply_of enter qos_fits first_fault
     indication_fault confirmation_fault send_fault start_fits_of pdu_fault answered instructed handed
@@ -107,7 +108,7 @@ abbrev late : List (Turn Order)
 late = asks Air (start_request_of dsc_mode 0 []) ∷ gets Ground ∷ asks Ground (start_response_of true 0 []) ∷ record { side = Air; step = timer_expires_of 0 } ∷ gets Air ∷ []
 
 pub bytes_late :
-    ((after late).here.rec.control ≡ closed) × ((after late).there.rec.control ≡ entered Dialogue true) × ((after late).here.line ≡ record { primitive = DAbortRequest 1; bytes = 4 ∷ (0 ∷ []) } ∷ []) × ((after late).there.line ≡ []) × ((after late).broken ≡ true)
+    ((after late).here.rec.control ≡ closed) × ((after late).there.rec.control ≡ entered Dialogue true) × ((after late).here.line ≡ record { primitive = Some (DAbortRequest 1); bytes = 4 ∷ (0 ∷ []) } ∷ []) × ((after late).there.line ≡ []) × ((after late).broken ≡ true)
 unfolding run step refusal_of event_fits user_fits has_mode service_fits user_data_fits permitted call_of message_refusal unsent
     acts called reached start_request start_response sent reply_of enter qos_fits first_fault indication_fault start_fits_of
     pdu_fault answered instructed handed timer_expires excepts aborts tell
@@ -127,7 +128,7 @@ closing =
     (message_request_of (5 ∷ []) 1) ∷ gets Air ∷ asks Ground (end_request_of false []) ∷ gets Air ∷ asks Air
     (end_response_of false 0 []) ∷ gets Ground ∷ []
 
-pub plain_opened : (plainly opened).there.line ≡ record { primitive = DStartResponse 0 0; bytes = [] } ∷ []
+pub plain_opened : (plainly opened).there.line ≡ record { primitive = Some (DStartResponse 0 0); bytes = [] } ∷ []
 unfolding run step refusal_of event_fits user_fits has_mode service_fits user_data_fits permitted call_of message_refusal unsent
     acts called reached start_request start_response message_request end_request end_response sent reply_of enter qos_fits
     first_fault indication_fault confirmation_fault send_fault start_fits_of pdu_fault answered instructed handed

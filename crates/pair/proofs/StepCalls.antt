@@ -23,9 +23,8 @@ use Rattle.machine.specs.declared.event.UserData.TheVariants.{Start, Send, Abort
 use Rattle.machine.specs.declared.event.Event.{Event}
 use Rattle.machine.specs.declared.event.Event.TheVariants.{User, TimerExpires, UnrecoverableSystemError}
 use Rattle.machine.specs.declared.outcome.StepRefusal.{StepRefusal}
-use Rattle.machine.specs.declared.outcome.StepRefusal.TheVariants.{None, Shape, Prohibited, NoMessage, Repeat}
+use Rattle.machine.specs.declared.outcome.StepRefusal.TheVariants.{Shape, Prohibited, NoMessage, Repeat}
 use Rattle.machine.specs.declared.outcome.Invoked.TheVariants.{DStartRequest, DStartResponse, DDataRequest, DEndRequest, DEndResponse, DAbortRequest}
-use Rattle.machine.specs.declared.outcome.Told.TheVariants.{Untold}
 use Rattle.control.proofs.Moves.{goes_awaits}
 use Rattle.pair.specs.Names.{Side, Control, Call, StartRequest, StartResponse, MessageRequest, EndRequest, EndResponse, UserAbort, TimerExpiry, SystemError, is, is_idle, takes, goes, StartReq, Reply, Accepted, Rejected, DStartCnf, DEnd, DEndCnf}
 use Rattle.pair.specs.Carrier.{Body, Sent}
@@ -39,11 +38,12 @@ use Rattle.pair.proofs.Agree.{SentRel, OutRel, Follows, stays, does}
 use Rattle.pair.proofs.StepLocal.{Local, low_of, Low, closed_is_idle}
 use Rattle.pair.proofs.StepEnds.{excepts_rel}
 use Rattle.pair.proofs.StepMeans.{known, meant, Means, written, start_means, answer_means, end_request_means, end_means, user_means}
+use Rattle.std.specs.Prelude.{None, Option, Some}
 
 -- ---- refusals
 
 -- an event that is not refused has the codes of its types, is permitted, and is not unsent
-order : (a b : Bool) (w : StepRefusal) → is_none (cond (not a) Shape (cond (not b) Prohibited w)) ≡ true → T a × T b × (is_none w ≡ true)
+order : (a b : Bool) (w : Option StepRefusal) → is_none (cond (not a) (Some Shape) (cond (not b) (Some Prohibited) w)) ≡ true → T a × T b × (is_none w ≡ true)
 order true true w e = (tt, tt, e)
 order true false w e = absurd (subst T (sym e) tt)
 order false b w e = absurd (subst T (sym e) tt)
@@ -60,7 +60,7 @@ above : (j h : ℕ) → leb j h ≡ false → T (ltb h j)
 above j h e = le→leb (suc h) j (nleb→lt j h (subst (λ (b : Bool). T (not b)) (sym e) tt))
 
 -- a message request that is taken holds a message and a job above the highest
-message_fine : (b t : Bool) → is_none (cond (not b) NoMessage (cond t Repeat None)) ≡ true → t ≡ false
+message_fine : (b t : Bool) → is_none (cond (not b) (Some NoMessage) (cond t (Some Repeat) None)) ≡ true → t ≡ false
 message_fine true true e = absurd (subst T (sym e) tt)
 message_fine true false e = refl
 message_fine false t e = absurd (subst T (sym e) tt)
@@ -120,8 +120,8 @@ module _ (K : Codec) (ed : Edition) (p : ℕ) where
       rw z
       (does (ask (StartRequest (is_dsc m)) b 0)
       (same_call sd r (with_request (with_user (with_timer r true) true) p) (StartRequest (is_dsc m)) b 0
-      (C.puts (record { primitive = DStartRequest (qos_asked k) p; bytes = K.enc sd (Start (is_dsc m)) b })) h v.1 tt refl refl (λ (x : T true). refl) refl
-      (written K ed p sd (DStartRequest (qos_asked k) p) (Start (is_dsc m)) b _ (T_is _ q)
+      (C.puts (record { primitive = Some (DStartRequest (qos_asked k) p); bytes = K.enc sd (Start (is_dsc m)) b })) h v.1 tt refl refl (λ (x : T true). refl) refl
+      (written K ed p sd (Some (DStartRequest (qos_asked k) p)) (Start (is_dsc m)) b _ (T_is _ q)
       (start_means ed p k (is_dsc m) b (and_l (ltb k routing_classes) _ (and_r (has_mode sd m) _ v.0))))))
   acted fair sd r (start_response_of m x b) h e false q = stays tt
   acted fair sd r (start_response_of m x b) h e true q =
@@ -132,45 +132,45 @@ module _ (K : Codec) (ed : Edition) (p : ℕ) where
       ∙ sent_is r fair h in
       does (ask (StartResponse m (reply_of x)) b 0)
       (same_call sd r r (StartResponse m (reply_of x)) b 0
-      (C.puts (record { primitive = DStartResponse x (security_sent (secures r.edition) r.policy); bytes = K.enc sd (unless_spared (spares r.edition) (K.carries b)) b })) h v.1 tt refl refl (λ (y : T (is (started (reply_of x) r.control.dsc).state StartReq)). absurd (started_not (reply_of x) r.control.dsc y)) refl
-      (written K ed p sd (DStartResponse x (security_sent (secures r.edition) r.policy))
+      (C.puts (record { primitive = Some (DStartResponse x (security_sent (secures r.edition) r.policy)); bytes = K.enc sd (unless_spared (spares r.edition) (K.carries b)) b })) h v.1 tt refl refl (λ (y : T (is (started (reply_of x) r.control.dsc).state StartReq)). absurd (started_not (reply_of x) r.control.dsc y)) refl
+      (written K ed p sd (Some (DStartResponse x (security_sent (secures r.edition) r.policy)))
       (unless_spared (spares r.edition) (K.carries b)) b _ (T_is _ q) (subst (λ (c : Edition). meant ed p
-      (DStartResponse x (security_sent (secures r.edition) r.policy))
+      (Some (DStartResponse x (security_sent (secures r.edition) r.policy)))
       (unless_spared (spares c) (K.carries b)) b ≡ known (ent (DStartCnf (reply_of x)) b))
       (sym h.edition) (answer_means ed p x _ (K.carries b) b y z))))
   acted fair sd r (message_request_of b j) h e false q = stays tt
   acted fair sd r (message_request_of b j) h e true q =
       let v = order (ltb 0 j) (takes sd r.control MessageRequest) _ e in
       does (ask MessageRequest b j)
-      (same_call sd r (with_job r j) MessageRequest b j (C.message (record { primitive = DDataRequest; bytes = K.enc sd Send b }) b j) h v.1 (above j r.highest (message_fine (K.carries b) _ v.2)) refl refl h.request refl
-      (written K ed p sd DDataRequest Send b _ (T_is _ q) refl, refl, refl))
+      (same_call sd r (with_job r j) MessageRequest b j (C.message (record { primitive = Some DDataRequest; bytes = K.enc sd Send b }) b j) h v.1 (above j r.highest (message_fine (K.carries b) _ v.2)) refl refl h.request refl
+      (written K ed p sd (Some DDataRequest) Send b _ (T_is _ q) refl, refl, refl))
   acted fair sd r (end_request_of m b) h e false q = stays tt
   acted fair sd r (end_request_of m b) h e true q =
       let v = order true (takes sd r.control (EndRequest m)) None e in
       does (ask (EndRequest m) b 0) (same_call sd r r (EndRequest m) b 0
-      (C.puts (record { primitive = DEndRequest; bytes = K.enc sd (unless_spared (spares r.edition) (K.carries b)) b })) h v.1 tt refl refl
-      (λ (y : T false). absurd y) refl (written K ed p sd DEndRequest
+      (C.puts (record { primitive = Some DEndRequest; bytes = K.enc sd (unless_spared (spares r.edition) (K.carries b)) b })) h v.1 tt refl refl
+      (λ (y : T false). absurd y) refl (written K ed p sd (Some DEndRequest)
       (unless_spared (spares r.edition) (K.carries b)) b _ (T_is _ q) (subst (λ (c : Edition). meant ed
-      p DEndRequest (unless_spared (spares c) (K.carries b)) b ≡ known (ent DEnd b))
+      p (Some DEndRequest) (unless_spared (spares c) (K.carries b)) b ≡ known (ent DEnd b))
       (sym h.edition) (end_request_means ed p (K.carries b) b))))
   acted fair sd r (end_response_of m x b) h e false q = stays tt
   acted fair sd r (end_response_of m x b) h e true q =
       let v = order (ltb x results) (takes sd r.control (EndResponse m (reply_of x))) None e in
       does (ask (EndResponse m (reply_of x)) b 0)
       (same_call sd r r (EndResponse m (reply_of x)) b 0
-      (C.puts (record { primitive = DEndResponse x; bytes = K.enc sd (unless_spared (spares r.edition) (K.carries b)) b })) h v.1 tt refl refl (λ
+      (C.puts (record { primitive = Some (DEndResponse x); bytes = K.enc sd (unless_spared (spares r.edition) (K.carries b)) b })) h v.1 tt refl refl (λ
       (y : T (is (ended (reply_of x) r.control.dsc).state StartReq)). absurd
-      (ended_not (reply_of x) r.control.dsc y)) refl (written K ed p sd (DEndResponse x)
+      (ended_not (reply_of x) r.control.dsc y)) refl (written K ed p sd (Some (DEndResponse x))
       (unless_spared (spares r.edition) (K.carries b)) b _ (T_is _ q) (subst (λ (c : Edition). meant ed
-      p (DEndResponse x) (unless_spared (spares c) (K.carries b)) b ≡ known
+      p (Some (DEndResponse x)) (unless_spared (spares c) (K.carries b)) b ≡ known
       (ent (DEndCnf (reply_of x)) b)) (sym h.edition) (end_means ed p x (K.carries b) b v.0))))
   acted fair sd r (user_abort_of g x) h e false q = stays tt
   acted fair sd r (user_abort_of g x) h e true q =
       let v = order (ltb x (user_reasons r.edition)) (takes sd r.control UserAbort) None e in
       does (ask UserAbort [] 0)
       (same_call sd r r UserAbort [] 0
-      (C.puts (record { primitive = DAbortRequest user; bytes = K.enc sd (AbortUser (reason_sent g x)) [] })) h v.1 tt refl refl (λ (y : T false). absurd y) refl (written K ed p sd
-      (DAbortRequest user) (AbortUser (reason_sent g x)) [] _ (T_is _ q) (user_means ed p (reason_sent g x)
+      (C.puts (record { primitive = Some (DAbortRequest user); bytes = K.enc sd (AbortUser (reason_sent g x)) [] })) h v.1 tt refl refl (λ (y : T false). absurd y) refl (written K ed p sd
+      (Some (DAbortRequest user)) (AbortUser (reason_sent g x)) [] _ (T_is _ q) (user_means ed p (reason_sent g x)
       (reason g (subst (λ (c : Edition). T (ltb x (user_reasons c))) h.edition v.0)))))
     where
       reason : (g : Bool) → T (ltb x (user_reasons ed)) → T (ltb (reason_sent g x) (user_reasons ed))
@@ -204,7 +204,7 @@ module _ (K : Codec) (ed : Edition) (p : ℕ) where
   expiry_rel sd r h = go r.timer refl
     where
       go : (t : Bool) → r.timer ≡ t
-          → Reported sd r (happens K sd (cond (is_none (cond (not t) Prohibited None)) (timer_expires r) (O.refused (cond (not t) Prohibited None) r)) []) TimerExpiry
+          → Reported sd r (happens K sd (cond (is_none (cond (not t) (Some Prohibited) None)) (timer_expires r) (O.refused (cond (not t) (Some Prohibited) None) r)) []) TimerExpiry
       go false e = stays tt
       go true e = taken_report sd r TimerExpiry _
           (both (takes sd r.control TimerExpiry) true (T_is _ (sym h.formed.timer ∙ e)) tt)
@@ -215,7 +215,7 @@ module _ (K : Codec) (ed : Edition) (p : ℕ) where
   error_rel sd r h = go (is_idle r.control) refl
     where
       go : (i : Bool) → is_idle r.control ≡ i
-          → Reported sd r (happens K sd (cond i (closes r Untold) (excepts r true undefined_error undefined_error)) []) SystemError
+          → Reported sd r (happens K sd (cond i (closes r None) (excepts r true undefined_error undefined_error)) []) SystemError
       go true e = stays (record { edition = h.edition; low = ap (λ (c : Control). held c r.highest) (closed_is_idle r h.formed e); policy = h.policy; request = λ (x : T false). absurd x; dialogue = refl }, refl)
       go false e = taken_report sd r SystemError _
           (both (takes sd r.control SystemError) true (subst (λ (b : Bool). T (not b)) (sym e) tt) tt)

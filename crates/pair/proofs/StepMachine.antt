@@ -19,14 +19,15 @@ use Rattle.machine.specs.declared.event.UserPrimitive.TheVariants.{StartServiceR
 use Rattle.machine.specs.declared.event.ServicePrimitive.TheVariants.{DPAbortIndication}
 use Rattle.machine.specs.declared.event.Event.TheVariants.{User, Service, TimerExpires, UnrecoverableSystemError}
 use Rattle.machine.specs.declared.outcome.Invoked.{Invoked}
-use Rattle.machine.specs.declared.outcome.Invoked.TheVariants.{Silent, DStartRequest, DStartResponse, DDataRequest, DEndRequest, DEndResponse, DAbortRequest, DStartForwardRequest, DStartForwardResponse}
+use Rattle.machine.specs.declared.outcome.Invoked.TheVariants.{DStartRequest, DStartResponse, DDataRequest, DEndRequest, DEndResponse, DAbortRequest, DStartForwardRequest, DStartForwardResponse}
 use Rattle.machine.specs.declared.outcome.Told.{Told}
-use Rattle.machine.specs.declared.outcome.Told.TheVariants.{Untold, StartIndication, StartConfirmation, MessageIndication, EndIndication, EndConfirmation, UserAbortIndication, ProviderAbortIndication, ForwardIndication, ForwardConfirmation}
+use Rattle.machine.specs.declared.outcome.Told.TheVariants.{StartIndication, StartConfirmation, MessageIndication, EndIndication, EndConfirmation, UserAbortIndication, ProviderAbortIndication, ForwardIndication, ForwardConfirmation}
 use Rattle.machine.specs.declared.outcome.Outcome.{Outcome}
 use Rattle.pair.specs.Names.{Side, other}
 use Rattle.pair.specs.Carrier.{Body, Sent, nothing, puts, message, Machine}
 use Rattle.pair.specs.Carrier as C
 use Rattle.pair.specs.Wires.{Wire, sort_of, arrives, rejects}
+use Rattle.std.specs.Prelude.{None, Option, Some}
 
 -- ---- the codec
 
@@ -58,28 +59,28 @@ body_of fault = []
 -- ---- what an event does
 
 -- the message in b, where the data received are delivered with a message indication
-abbrev pub handed_by : Told → Body → List Body
-handed_by Untold b = []
-handed_by (StartIndication m k) b = []
-handed_by (StartConfirmation m x) b = []
-handed_by MessageIndication b = b ∷ []
-handed_by (EndIndication m) b = []
-handed_by (EndConfirmation m x) b = []
-handed_by (UserAbortIndication x) b = []
-handed_by (ProviderAbortIndication x) b = []
-handed_by ForwardIndication b = []
-handed_by (ForwardConfirmation x v) b = []
+abbrev pub handed_by : Option Told → Body → List Body
+handed_by None b = []
+handed_by (Some (StartIndication m k)) b = []
+handed_by (Some (StartConfirmation m x)) b = []
+handed_by (Some MessageIndication) b = b ∷ []
+handed_by (Some (EndIndication m)) b = []
+handed_by (Some (EndConfirmation m x)) b = []
+handed_by (Some (UserAbortIndication x)) b = []
+handed_by (Some (ProviderAbortIndication x)) b = []
+handed_by (Some ForwardIndication) b = []
+handed_by (Some (ForwardConfirmation x v)) b = []
 
-abbrev pub sent_by : Invoked → List ℕ → Body → ℕ → Sent Wire
-sent_by Silent w b j = nothing
-sent_by (DStartRequest q s) w b j = puts (record { primitive = DStartRequest q s; bytes = w })
-sent_by (DStartResponse x s) w b j = puts (record { primitive = DStartResponse x s; bytes = w })
-sent_by DDataRequest w b j = message (record { primitive = DDataRequest; bytes = w }) b j
-sent_by DEndRequest w b j = puts (record { primitive = DEndRequest; bytes = w })
-sent_by (DEndResponse x) w b j = puts (record { primitive = DEndResponse x; bytes = w })
-sent_by (DAbortRequest o) w b j = puts (record { primitive = DAbortRequest o; bytes = w })
-sent_by (DStartForwardRequest q s v) w b j = puts (record { primitive = DStartForwardRequest q s v; bytes = w })
-sent_by (DStartForwardResponse s v) w b j = puts (record { primitive = DStartForwardResponse s v; bytes = w })
+abbrev pub sent_by : Option Invoked → List ℕ → Body → ℕ → Sent Wire
+sent_by None w b j = nothing
+sent_by (Some (DStartRequest q s)) w b j = puts (record { primitive = Some (DStartRequest q s); bytes = w })
+sent_by (Some (DStartResponse x s)) w b j = puts (record { primitive = Some (DStartResponse x s); bytes = w })
+sent_by (Some DDataRequest) w b j = message (record { primitive = Some DDataRequest; bytes = w }) b j
+sent_by (Some DEndRequest) w b j = puts (record { primitive = Some DEndRequest; bytes = w })
+sent_by (Some (DEndResponse x)) w b j = puts (record { primitive = Some (DEndResponse x); bytes = w })
+sent_by (Some (DAbortRequest o)) w b j = puts (record { primitive = Some (DAbortRequest o); bytes = w })
+sent_by (Some (DStartForwardRequest q s v)) w b j = puts (record { primitive = Some (DStartForwardRequest q s v); bytes = w })
+sent_by (Some (DStartForwardResponse s v)) w b j = puts (record { primitive = Some (DStartForwardResponse s v); bytes = w })
 
 -- b, j: the data and the job that the user gave; x: the data that were received
 abbrev pub taken : Codec → Side → Outcome → Body → ℕ → Body → C.Outcome Record Wire

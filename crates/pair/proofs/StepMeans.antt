@@ -15,7 +15,7 @@ use Rattle.machine.specs.Calls.{reply_of, qos_asked, unless_spared}
 use Rattle.machine.specs.declared.event.UserData.{UserData}
 use Rattle.machine.specs.declared.event.UserData.TheVariants.{Absent, NotValid, Start, Send, AbortUser, AbortProvider, Forward, ForwardResponse}
 use Rattle.machine.specs.declared.outcome.Invoked.{Invoked}
-use Rattle.machine.specs.declared.outcome.Invoked.TheVariants.{Silent, DStartRequest, DStartResponse, DDataRequest, DEndRequest, DEndResponse, DAbortRequest, DStartForwardRequest, DStartForwardResponse}
+use Rattle.machine.specs.declared.outcome.Invoked.TheVariants.{DStartRequest, DStartResponse, DDataRequest, DEndRequest, DEndResponse, DAbortRequest, DStartForwardRequest, DStartForwardResponse}
 use Rattle.pair.specs.Names.{Side, Primitive, DStart, DStartCnf, DData, DEnd, DEndCnf, DAbort}
 use Rattle.pair.specs.Carrier.{Body}
 use Rattle.pair.proofs.ControlMachine.{Ent, ent}
@@ -24,6 +24,7 @@ use Rattle.pair.specs.Wires.{Wire, sort_of}
 use Rattle.pair.proofs.StepMachine.{Read, got, fault, Codec}
 use Rattle.pair.proofs.Finite.{is_t}
 use Rattle.words.proofs.Laws.{both_left, both_right}
+use Rattle.std.specs.Prelude.{None, Option, Some}
 
 -- odd: a fault would be met
 pub data Meaning : Type 0 where
@@ -75,18 +76,18 @@ abort_of ed o Forward = odd
 abort_of ed o (ForwardResponse x) = odd
 
 -- p: the security value of both ends
-abbrev pub meant : Edition → ℕ → Invoked → UserData → Body → Meaning
-meant ed p Silent a b = odd
-meant ed p (DStartRequest q s) a b = cond (qos_fits q && eqb s p) (start_of a b) odd
-meant ed p (DStartResponse x s) a b = cond (ltb x results && eqb s p) (answer_of ed x a b) odd
-meant ed p DDataRequest a b = send_of false true DData a b
-meant ed p DEndRequest a b = send_of (spares ed) true DEnd a b
-meant ed p (DEndResponse x) a b = cond (ltb x results) (send_of (spares ed) true (DEndCnf (reply_of x)) a b) odd
-meant ed p (DAbortRequest o) a b = abort_of ed o a
-meant ed p (DStartForwardRequest q s v) a b = odd
-meant ed p (DStartForwardResponse s v) a b = odd
+abbrev pub meant : Edition → ℕ → Option Invoked → UserData → Body → Meaning
+meant ed p None a b = odd
+meant ed p (Some (DStartRequest q s)) a b = cond (qos_fits q && eqb s p) (start_of a b) odd
+meant ed p (Some (DStartResponse x s)) a b = cond (ltb x results && eqb s p) (answer_of ed x a b) odd
+meant ed p (Some DDataRequest) a b = send_of false true DData a b
+meant ed p (Some DEndRequest) a b = send_of (spares ed) true DEnd a b
+meant ed p (Some (DEndResponse x)) a b = cond (ltb x results) (send_of (spares ed) true (DEndCnf (reply_of x)) a b) odd
+meant ed p (Some (DAbortRequest o)) a b = abort_of ed o a
+meant ed p (Some (DStartForwardRequest q s v)) a b = odd
+meant ed p (Some (DStartForwardResponse s v)) a b = odd
 
-abbrev pub meaning : Edition → ℕ → Invoked → Read → Meaning
+abbrev pub meaning : Edition → ℕ → Option Invoked → Read → Meaning
 meaning ed p i (got a b) = meant ed p i a b
 meaning ed p i fault = odd
 
@@ -137,32 +138,32 @@ abort_is ed o (AbortProvider x) f e = ap ent_of (known_if (eqb o provider && ltb
 abort_is ed o Forward f e = never f e
 abort_is ed o (ForwardResponse x) f e = never f e
 
-meant_sort : (ed : Edition) (p : ℕ) (i : Invoked) (a : UserData) (b : Body) (f : Ent) → meant ed p i a b ≡ known f
+meant_sort : (ed : Edition) (p : ℕ) (i : Option Invoked) (a : UserData) (b : Body) (f : Ent) → meant ed p i a b ≡ known f
     → sort_of i ≡ M.sort_of f.kind
-meant_sort ed p Silent a b f e = never f e
-meant_sort ed p (DStartRequest q s) a b f e = start_sort a b f (known_if (qos_fits q && eqb s p) (start_of a b) f e).1
-meant_sort ed p (DStartResponse x s) a b f e = send_sort (spares ed) _ (DStartCnf (reply_of x)) a b f
+meant_sort ed p None a b f e = never f e
+meant_sort ed p (Some (DStartRequest q s)) a b f e = start_sort a b f (known_if (qos_fits q && eqb s p) (start_of a b) f e).1
+meant_sort ed p (Some (DStartResponse x s)) a b f e = send_sort (spares ed) _ (DStartCnf (reply_of x)) a b f
     (known_if (ltb x results && eqb s p) (answer_of ed x a b) f e).1
-meant_sort ed p DDataRequest a b f e = send_sort false true DData a b f e
-meant_sort ed p DEndRequest a b f e = send_sort (spares ed) true DEnd a b f e
-meant_sort ed p (DEndResponse x) a b f e = send_sort (spares ed) true (DEndCnf (reply_of x)) a b f
+meant_sort ed p (Some DDataRequest) a b f e = send_sort false true DData a b f e
+meant_sort ed p (Some DEndRequest) a b f e = send_sort (spares ed) true DEnd a b f e
+meant_sort ed p (Some (DEndResponse x)) a b f e = send_sort (spares ed) true (DEndCnf (reply_of x)) a b f
     (known_if (ltb x results) (send_of (spares ed) true (DEndCnf (reply_of x)) a b) f e).1
-meant_sort ed p (DAbortRequest o) a b f e = ap (λ (x : Ent). M.sort_of x.kind) (abort_is ed o a f e)
-meant_sort ed p (DStartForwardRequest q s v) a b f e = never f e
-meant_sort ed p (DStartForwardResponse s v) a b f e = never f e
+meant_sort ed p (Some (DAbortRequest o)) a b f e = ap (λ (x : Ent). M.sort_of x.kind) (abort_is ed o a f e)
+meant_sort ed p (Some (DStartForwardRequest q s v)) a b f e = never f e
+meant_sort ed p (Some (DStartForwardResponse s v)) a b f e = never f e
 
-pub meaning_sort : (ed : Edition) (p : ℕ) (i : Invoked) (x : Read) (f : Ent) → meaning ed p i x ≡ known f → sort_of i ≡ M.sort_of f.kind
+pub meaning_sort : (ed : Edition) (p : ℕ) (i : Option Invoked) (x : Read) (f : Ent) → meaning ed p i x ≡ known f → sort_of i ≡ M.sort_of f.kind
 meaning_sort ed p i (got a b) f e = meant_sort ed p i a b f e
 meaning_sort ed p i fault f e = never f e
 
 -- ---- what a side writes means what the control sends
 
 -- bytes that were written are read back
-pub written : (K : Codec) (ed : Edition) (p : ℕ) (sd : Side) (i : Invoked) (a : UserData) (b : Body) (f : Ent) → T (K.fits sd a b) → meant ed p i a b ≡ known f → Means K ed p sd (record { primitive = i; bytes = K.enc sd a b }) f
+pub written : (K : Codec) (ed : Edition) (p : ℕ) (sd : Side) (i : Option Invoked) (a : UserData) (b : Body) (f : Ent) → T (K.fits sd a b) → meant ed p i a b ≡ known f → Means K ed p sd (record { primitive = i; bytes = K.enc sd a b }) f
 written K ed p sd i a b f t e = ap (λ (x : Read). meaning ed p i x) (K.back sd a b t) ∙ e
 
 pub start_means : (ed : Edition) (p k : ℕ) (m : Bool) (b : Body) → T (ltb k routing_classes)
-    → meant ed p (DStartRequest (qos_asked k) p) (Start m) b ≡ known (ent (DStart m) b)
+    → meant ed p (Some (DStartRequest (qos_asked k) p)) (Start m) b ≡ known (ent (DStart m) b)
 unfolding qos_fits
 start_means ed p k m b t = yes (ltb k routing_classes && eqb p p) (known (ent (DStart m) b))
     (ap (λ (x : Bool). x && eqb p p) (is_t (ltb k routing_classes) t) ∙ eq-eqb p p refl)
@@ -183,27 +184,27 @@ end_known false true k b = refl
 end_known false false k b = refl
 
 pub answer_means : (ed : Edition) (p x s : ℕ) (h : Bool) (b : Body) → answer_fits (spares ed) x h ≡ true → s ≡ p
-    → meant ed p (DStartResponse x s) (unless_spared (spares ed) h) b ≡ known (ent (DStartCnf (reply_of x)) b)
+    → meant ed p (Some (DStartResponse x s)) (unless_spared (spares ed) h) b ≡ known (ent (DStartCnf (reply_of x)) b)
 answer_means ed p x s h b t e =
     yes (ltb x results && eqb s p) (answer_of ed x (cond (spares ed && not h) Absent Send) b)
     (ap (λ (y : Bool). y && eqb s p) (both_right (not (spares ed && (eqb x accepted && h))) _ t) ∙ eq-eqb s p e)
     ∙ send_known (spares ed) h (eqb x accepted) (DStartCnf (reply_of x)) b (both_left (not (spares ed && (eqb x accepted && h))) _ t)
 
 pub end_request_means : (ed : Edition) (p : ℕ) (h : Bool) (b : Body)
-    → meant ed p DEndRequest (unless_spared (spares ed) h) b ≡ known (ent DEnd b)
+    → meant ed p (Some DEndRequest) (unless_spared (spares ed) h) b ≡ known (ent DEnd b)
 end_request_means ed p h b = end_known (spares ed) h DEnd b
 
 pub end_means : (ed : Edition) (p x : ℕ) (h : Bool) (b : Body) → T (ltb x results)
-    → meant ed p (DEndResponse x) (unless_spared (spares ed) h) b ≡ known (ent (DEndCnf (reply_of x)) b)
+    → meant ed p (Some (DEndResponse x)) (unless_spared (spares ed) h) b ≡ known (ent (DEndCnf (reply_of x)) b)
 end_means ed p x h b t = yes (ltb x results)
     (send_of (spares ed) true (DEndCnf (reply_of x)) (cond (spares ed && not h) Absent Send) b) (is_t (ltb x results) t) ∙
     end_known (spares ed) h (DEndCnf (reply_of x)) b
 
 pub user_means : (ed : Edition) (p x : ℕ) → T (ltb x (user_reasons ed))
-    → meant ed p (DAbortRequest user) (AbortUser x) [] ≡ known (ent DAbort [])
+    → meant ed p (Some (DAbortRequest user)) (AbortUser x) [] ≡ known (ent DAbort [])
 user_means ed p x t = yes (ltb x (user_reasons ed)) (known (ent DAbort [])) (is_t (ltb x (user_reasons ed)) t)
 
 -- a provider abort
-pub abort_means : (K : Codec) (ed : Edition) (p : ℕ) (sd : Side) (x : ℕ) → T (ltb x provider_reasons) → Means K ed p sd (record { primitive = DAbortRequest provider; bytes = K.enc sd (AbortProvider x) [] }) (ent DAbort [])
-abort_means K ed p sd x t = written K ed p sd (DAbortRequest provider) (AbortProvider x) [] (ent DAbort [])
+pub abort_means : (K : Codec) (ed : Edition) (p : ℕ) (sd : Side) (x : ℕ) → T (ltb x provider_reasons) → Means K ed p sd (record { primitive = Some (DAbortRequest provider); bytes = K.enc sd (AbortProvider x) [] }) (ent DAbort [])
+abort_means K ed p sd x t = written K ed p sd (Some (DAbortRequest provider)) (AbortProvider x) [] (ent DAbort [])
     (K.reasons_fit sd x t) (yes (ltb x provider_reasons) (known (ent DAbort [])) (is_t (ltb x provider_reasons) t))

@@ -11,15 +11,13 @@ use native.Mathlib.Nat.{mod-eq_of_lt}
 use lib.Count.{ones_in, ones, ones_cat}
 use lib.Dec.{leb, ltb, eqb}
 use lib.ListN.{length, take, drop, get_or}
-use Rattle.words.proofs.Laws.{both_left, both_right}
+use Rattle.words.proofs.Laws.{both_left, both_right, ok_value, ok_place}
 use Rattle.bits.specs.Bits.{bits_n, num_of, acc_of}
 use Rattle.bits.proofs.Numbers.{Bits, length_bits_n, bits_bits_n, bits_n_split, bits_n_suc, num_bits_n, num_cons, num_lt}
 use Rattle.fields.specs.Additions.{addition_count, additions_there, addition_at, stepped_over, additions_at}
 use Rattle.fields.specs.Fields.{refused_at, then, bit_field, extension_bit}
 use Rattle.fields.specs.Encodings.{length_fits, length_bits}
 use Rattle.fields.specs.declared.Fault.TheVariants.{Extension}
-use Rattle.fields.specs.declared.Field.{Field}
-use Rattle.fields.specs.declared.Field.TheVariants.{Value, Refused}
 use Rattle.fields.proofs.RoundTrip.{Stands, stands_split, stands_join, bit_field_is, extension_bit_is, length_determinant, items_read_written}
 use Rattle.fields.proofs.RoundTrip as fields
 use Rattle.fields.proofs.Editions.{Addition, absent, there, marks, contents, additions_bits, additions_fit, given}
@@ -31,35 +29,36 @@ use Rattle.pdus.specs.declared.PduType.{PduType}
 use Rattle.apdu.specs.declared.Kind.TheVariants as kind
 use Rattle.apdu.specs.declared.Data.{Data}
 use Rattle.apdu.specs.declared.Apdu.TheVariants as apdu
-use Rattle.apdu.specs.declared.Decoded.TheVariants as decoded
 use Rattle.apdu.proofs.Bounds.{never}
 use Rattle.apdu.proofs.Contents.{stands_at, stands_none, DataIs, data_mark}
 use Rattle.apdu.proofs.Apdus.{Led, ApduIs, apdu_read}
 use Rattle.apdu.proofs.Theorems.{ended_whole}
 use Rattle.places.specs.Later.{later_bits, later_start, later_send}
+use Rattle.std.specs.Prelude.{Err, Ok}
+use Rattle.fields.specs.Fields.{Reading}
 
 -- ---- the additions that are there
 
-value_place : (v n w m : ℕ) → Value v n ≡ Value w m → n ≡ m
-value_place v n w m e = cc
+value_place : (v n w m : ℕ) → ◌≡◌ {A = Reading ℕ} (Ok (v, n)) (Ok (w, m)) → n ≡ m
+value_place v n w m e = ok_place e
 
-stepped_zero : (l : List ℕ) (at : ℕ) → stepped_over l at 0 ≡ Value 0 at
+stepped_zero : (l : List ℕ) (at : ℕ) → stepped_over l at 0 ≡ Ok (0, at)
 unfolding stepped_over
 stepped_zero l at = refl
 
 record More (l : List ℕ) (at k v next : ℕ) : Type 0 where
   n : ℕ
   place : ℕ
-  first : addition_at l at ≡ Value n place
-  rest : stepped_over l place k ≡ Value v next
+  first : addition_at l at ≡ Ok (n, place)
+  rest : stepped_over l place k ≡ Ok (v, next)
 
-stepped_more : (l : List ℕ) (at k v next : ℕ) → stepped_over l at (suc k) ≡ Value v next → More l at k v next
+stepped_more : (l : List ℕ) (at k v next : ℕ) → stepped_over l at (suc k) ≡ Ok (v, next) → More l at k v next
 unfolding stepped_over
 stepped_more l at k v next e = by (addition_at l at) refl e
   where
-    by : (f : Field) → addition_at l at ≡ f → then f (λ (n p : ℕ). stepped_over l p k) ≡ Value v next → More l at k v next
-    by (Value n p) q u = record { n = n; place = p; first = q; rest = u }
-    by (Refused r) q u = never (cc)
+    by : (f : Reading ℕ) → addition_at l at ≡ f → then f (λ (n p : ℕ). stepped_over l p k) ≡ Ok (v, next) → More l at k v next
+    by (Ok (n, p)) q u = record { n = n; place = p; first = q; rest = u }
+    by (Err r) q u = never (cc)
 
 ones_none : ones 0 ≡ 0
 unfolding ones ones_in
@@ -86,7 +85,7 @@ record One (l : List ℕ) (at next : ℕ) : Type 0 where
   few : length_fits (length octets / 8) ≡ true
   stands : Stands l at (length_bits (length octets / 8) ++ octets) next
 
-one_read : (l : List ℕ) (at n next : ℕ) → Bits l → addition_at l at ≡ Value n next → One l at next
+one_read : (l : List ℕ) (at n next : ℕ) → Bits l → addition_at l at ≡ Ok (n, next) → One l at next
 unfolding addition_at
 one_read l at n next b e =
     let i = items_read_written length_determinant 8 l at n next b e in
@@ -120,16 +119,16 @@ there_over l ms at p next k a o =
     }
 
 over_read : (l ms : List ℕ) → Bits l → Bits ms → (at v next : ℕ) → at ≤ length l
-    → stepped_over l at (ones (num_of ms)) ≡ Value v next → Over l ms at next
+    → stepped_over l at (ones (num_of ms)) ≡ Ok (v, next) → Over l ms at next
 unfolding marks contents additions_fit given acc_of
 over_read l [] b c at v next h e =
     let p : at ≡ next = place (stepped_over_none at) in
     record { additions = []; marked = refl; fits = refl; stands = stands_at l at at next [] p (stands_none l at h); count = sym ones_none }
   where
-    stepped_over_none : (at : ℕ) → stepped_over l at (ones (num_of [])) ≡ Value 0 at
+    stepped_over_none : (at : ℕ) → stepped_over l at (ones (num_of [])) ≡ Ok (0, at)
     stepped_over_none at = ap (stepped_over l at) ones_none ∙ stepped_zero l at
 
-    place : stepped_over l at (ones (num_of [])) ≡ Value 0 at → at ≡ next
+    place : stepped_over l at (ones (num_of [])) ≡ Ok (0, at) → at ≡ next
     place q = value_place 0 at v next (sym q ∙ e)
 over_read l (zero ∷ ms) b c at v next h e =
     let d = bits_tail zero ms c in
@@ -166,11 +165,11 @@ record Counted (l : List ℕ) (at n p : ℕ) : Type 0 where
   pos : 0 < n
   stands : Stands l at (bits_n 1 0 ++ bits_n 6 (n - 1)) p
 
-count_is : (l : List ℕ) (at n p : ℕ) → Bits l → addition_count l at ≡ Value n p → Counted l at n p
+count_is : (l : List ℕ) (at n p : ℕ) → Bits l → addition_count l at ≡ Ok (n, p) → Counted l at n p
 unfolding addition_count
 count_is l at n p b e = first (extension_bit l at) refl e
   where
-    made : (z q v : ℕ) → extension_bit l at ≡ Value z q → bit_field l at 7 ≡ Value v p → n ≡ v + 1 → Counted l at n p
+    made : (z q v : ℕ) → extension_bit l at ≡ Ok (z, q) → bit_field l at 7 ≡ Ok (v, p) → n ≡ v + 1 → Counted l at n p
     made z q v f g k =
         let s = (bit_field_is 7).read_written l at v p b g in
         let t : v < 2 ^ 7 = ltb-true v (2 ^ 7) (both_right (leb 7 64) (ltb v (2 ^ 7)) ((bit_field_is 7).read_fits l at v p b g)) in
@@ -187,43 +186,43 @@ count_is l at n p b e = first (extension_bit l at) refl e
             → take (length (bits_n 1 c)) (drop at l) ≡ bits_n 1 c → bits_n 1 a ≡ bits_n 1 c
         alike a c h g = sym h ∙ (ap (λ (k : ℕ). take k (drop at l)) (length_bits_n 1 a ∙ sym (length_bits_n 1 c)) ∙ g)
 
-    second : (z q : ℕ) → extension_bit l at ≡ Value z q → (f : Field) → bit_field l at 7 ≡ f
-        → then f (λ (v next : ℕ). Value (v + 1) next) ≡ Value n p → Counted l at n p
-    second z q x (Value v m) f k =
-        let y : v + 1 ≡ n = cc in
-        let w : m ≡ p = cc in
-        made z q v x (f ∙ ap (Value v) w) (sym y)
-    second z q x (Refused r) f k = never (cc)
+    second : (z q : ℕ) → extension_bit l at ≡ Ok (z, q) → (f : Reading ℕ) → bit_field l at 7 ≡ f
+        → then {A = ℕ} {B = ℕ × ℕ} f (λ (v next : ℕ). Ok (v + 1, next)) ≡ Ok (n, p) → Counted l at n p
+    second z q x (Ok (v, m)) f k =
+        let y : v + 1 ≡ n = ok_value k in
+        let w : m ≡ p = ok_place k in
+        made z q v x (f ∙ ap (λ (place : ℕ). Ok (v, place)) w) (sym y)
+    second z q x (Err r) f k = never (cc)
 
-    first : (f : Field) → extension_bit l at ≡ f
-        → then f (λ (b p : ℕ). then (bit_field l at 7) (λ (v next : ℕ). Value (v + 1) next)) ≡ Value n p
+    first : (f : Reading ℕ) → extension_bit l at ≡ f
+        → then {A = ℕ} {B = ℕ × ℕ} f (λ (b p : ℕ). then (bit_field l at 7) (λ (v next : ℕ). Ok (v + 1, next))) ≡ Ok (n, p)
         → Counted l at n p
-    first (Value z q) f k = second z q f (bit_field l at 7) refl k
-    first (Refused r) f k = never (cc)
+    first (Ok (z, q)) f k = second z q f (bit_field l at 7) refl k
+    first (Err r) f k = never (cc)
 
-record Some (l : List ℕ) (at n v next : ℕ) : Type 0 where
+record SomeAre (l : List ℕ) (at n v next : ℕ) : Type 0 where
   stands : Stands l at (bits_n n v) next
   low : v < 2 ^ n
   pos : 0 < v
 
-there_is : (l : List ℕ) (at n v next : ℕ) → Bits l → additions_there l at n ≡ Value v next → Some l at n v next
+there_is : (l : List ℕ) (at n v next : ℕ) → Bits l → additions_there l at n ≡ Ok (v, next) → SomeAre l at n v next
 unfolding additions_there
 there_is l at n v next b e = first (bit_field l at n) refl e
   where
-    made : (w q : ℕ) → bit_field l at n ≡ Value w q → (t : Bool) → eqb w 0 ≡ t
-        → cond t (refused_at at Extension) (Value w q) ≡ Value v next → Some l at n v next
+    made : (w q : ℕ) → bit_field l at n ≡ Ok (w, q) → (t : Bool) → eqb w 0 ≡ t
+        → cond {A = Reading ℕ} t (refused_at at Extension) (Ok (w, q)) ≡ Ok (v, next) → SomeAre l at n v next
     made w q f true z k = never (cc)
     made w q f false z k =
-        let x : w ≡ v = cc in
-        let y : q ≡ next = cc in
-        let g : bit_field l at n ≡ Value v next = f ∙ (ap (λ (a : ℕ). Value a q) x ∙ ap (Value v) y) in
+        let x : w ≡ v = ok_value k in
+        let y : q ≡ next = ok_place k in
+        let g : bit_field l at n ≡ Ok (v, next) = f ∙ (ap (λ (a : ℕ). Ok (a, q)) x ∙ ap (λ (place : ℕ). Ok (v, place)) y) in
         let h = eqb-false w 0 z in
         record { stands = (bit_field_is n).read_written l at v next b g; low = ltb-true v (2 ^ n) (both_right (leb n 64) (ltb v (2 ^ n)) ((bit_field_is n).read_fits l at v next b g)); pos = omega arith }
 
-    first : (f : Field) → bit_field l at n ≡ f
-        → then f (λ (w q : ℕ). cond (eqb w 0) (refused_at at Extension) (Value w q)) ≡ Value v next → Some l at n v next
-    first (Value w q) f k = made w q f (eqb w 0) refl k
-    first (Refused r) f k = never (cc)
+    first : (f : Reading ℕ) → bit_field l at n ≡ f
+        → then {A = ℕ} {B = ℕ × ℕ} f (λ (w q : ℕ). cond (eqb w 0) (refused_at at Extension) (Ok (w, q))) ≡ Ok (v, next) → SomeAre l at n v next
+    first (Ok (w, q)) f k = made w q f (eqb w 0) refl k
+    first (Err r) f k = never (cc)
 
 -- where none is given the marks say 0
 none_given : (xs : List Addition) → given xs ≡ 0 → num_of (marks xs) ≡ 0
@@ -240,7 +239,7 @@ laid : {l : List ℕ} {at next : ℕ} (xs : List Addition) → Stands l at (bits
 unfolding additions_bits
 laid xs s = s
 
-pub additions_are : (l : List ℕ) (at w next : ℕ) → Bits l → additions_at l at ≡ Value w next → Added l at next
+pub additions_are : (l : List ℕ) (at w next : ℕ) → Bits l → additions_at l at ≡ Ok (w, next) → Added l at next
 unfolding additions_at
 additions_are l at w next b e = first (addition_count l at) refl e
   where
@@ -250,7 +249,7 @@ additions_are l at w next b e = first (addition_count l at) refl e
     unfolded xs n k s = rw k (subst (λ (x : List ℕ). Stands l at x next)
         (append_assoc (bits_n 1 0) (bits_n 6 (n - 1)) (marks xs ++ contents xs)) s)
 
-    made : (n p v q : ℕ) → Counted l at n p → Some l p n v q → Over l (bits_n n v) q next → num_of (bits_n n v) ≡ v → Added l at next
+    made : (n p v q : ℕ) → Counted l at n p → SomeAre l p n v q → Over l (bits_n n v) q next → num_of (bits_n n v) ≡ v → Added l at next
     made n p v q c t o z =
         let k : length o.additions ≡ n = sym (length_marks o.additions) ∙ (ap length o.marked ∙ length_bits_n n v) in
         let s : Stands l p (marks o.additions) q = subst (λ (x : List ℕ). Stands l p x q) (sym o.marked) t.stands in
@@ -266,8 +265,8 @@ additions_are l at w next b e = first (addition_count l at) refl e
               (stands_join l at p next _ _ c.stands (stands_join l p q next _ _ s o.stands)));
         }
 
-    third : (n p v q : ℕ) → addition_count l at ≡ Value n p → additions_there l p n ≡ Value v q
-        → stepped_over l q (ones v) ≡ Value w next → Added l at next
+    third : (n p v q : ℕ) → addition_count l at ≡ Ok (n, p) → additions_there l p n ≡ Ok (v, q)
+        → stepped_over l q (ones v) ≡ Ok (w, next) → Added l at next
     third n p v q f g k =
         let c = count_is l at n p b f in
         let t = there_is l p n v q b g in
@@ -276,16 +275,16 @@ additions_are l at w next b e = first (addition_count l at) refl e
         let j = t.stands.place in
         made n p v q c t (over_read l (bits_n n v) b (bits_bits_n n v) q w next (omega arith) (rw z k)) z
 
-    second : (n p : ℕ) → addition_count l at ≡ Value n p → (f : Field) → additions_there l p n ≡ f
-        → then f (λ (v q : ℕ). stepped_over l q (ones v)) ≡ Value w next → Added l at next
-    second n p c (Value v q) f k = third n p v q c f k
-    second n p c (Refused r) f k = never (cc)
+    second : (n p : ℕ) → addition_count l at ≡ Ok (n, p) → (f : Reading ℕ) → additions_there l p n ≡ f
+        → then f (λ (v q : ℕ). stepped_over l q (ones v)) ≡ Ok (w, next) → Added l at next
+    second n p c (Ok (v, q)) f k = third n p v q c f k
+    second n p c (Err r) f k = never (cc)
 
-    first : (f : Field) → addition_count l at ≡ f
-        → then f (λ (n p : ℕ). then (additions_there l p n) (λ (v q : ℕ). stepped_over l q (ones v))) ≡ Value w next
+    first : (f : Reading ℕ) → addition_count l at ≡ f
+        → then f (λ (n p : ℕ). then (additions_there l p n) (λ (v q : ℕ). stepped_over l q (ones v))) ≡ Ok (w, next)
         → Added l at next
-    first (Value n p) f k = second n p f (additions_there l p n) refl k
-    first (Refused r) f k = never (cc)
+    first (Ok (n, p)) f k = second n p f (additions_there l p n) refl k
+    first (Err r) f k = never (cc)
 
 -- ---- an APDU that is read with the extension bit 1
 
@@ -322,7 +321,7 @@ module _ (l bs : List ℕ) (next : ℕ) (d : Data) (b : Bits l) (i : Led l 0 nex
       }
 
 pub accepted_later_start : (pdus : PduType) (l : List ℕ) (m : ℕ) (d : Data) → Bits l
-    → apdu_at pdus l 0 ≡ decoded.Is (apdu.Start m d) → extended pdus l (apdu.Start m d) ≡ true
+    → apdu_at pdus l 0 ≡ Ok (apdu.Start m d) → extended pdus l (apdu.Start m d) ≡ true
     → WithAdditions (λ (ys : List ℕ). l ≡ padded (later_start pdus m (content_in l l l d) ys))
 unfolding extended
 accepted_later_start pdus l m d b e x =
@@ -332,7 +331,7 @@ accepted_later_start pdus l m d b e x =
     (mode_bits pdus m) (later_bits (content_in l l l d) (additions_bits w.additions))) w.so in
     record { additions = w.additions; few = w.few; some = w.some; fits = w.fits; so = ended_whole l _ i.place i.left i.end b s i.tail }
 
-pub accepted_later_send : (pdus : PduType) (l : List ℕ) (d : Data) → Bits l → apdu_at pdus l 0 ≡ decoded.Is (apdu.Send d)
+pub accepted_later_send : (pdus : PduType) (l : List ℕ) (d : Data) → Bits l → apdu_at pdus l 0 ≡ Ok (apdu.Send d)
     → extended pdus l (apdu.Send d) ≡ true
     → WithAdditions (λ (ys : List ℕ). l ≡ padded (later_send pdus (content_in l l l d) ys))
 unfolding extended

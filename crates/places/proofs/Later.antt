@@ -11,26 +11,23 @@ use Rattle.words.proofs.Laws.{both_left, both_right}
 use Rattle.bits.specs.Bits.{bits_n}
 use Rattle.bits.proofs.Numbers.{Bits, length_bits_n}
 use Rattle.fields.specs.Additions.{additions_at}
-use Rattle.fields.specs.Fields.{bit_field, extensible_index, string_at, onto}
+use Rattle.fields.specs.Fields.{bit_field, extensible_index, string_at}
 use Rattle.fields.specs.Encodings.{index_bits}
-use Rattle.fields.specs.declared.Field.{Field}
-use Rattle.fields.specs.declared.Field.TheVariants.{Value, Refused}
 use Rattle.fields.proofs.RoundTrip.{Stands, stands_split, bit_field_is, extensible_index_is}
 use Rattle.fields.proofs.Editions.{Addition, additions_bits, additions_fit, given as given_of, later_stepped}
 use Rattle.apdu.specs.Sizes.{identifier_least, identifier_most, message_most, check_most, octet, bit}
 use Rattle.apdu.specs.Pdus.{Optional, Content, Pdu, start, send, last_of, kind_of, content_in, pdu_in}
 use Rattle.apdu.specs.Encoding.{string_bits, string_fits, optional_bits, optional_fits, presence, root_bits, content_fits, alternative, mode_bits, mode_fits, pdu_fits, padded, padding}
-use Rattle.apdu.specs.Reading.{on_taken, span_to, part_at, optional_at, parts_within, parts_at, with_additions, data_within, data_at, kind_mode, leading_at, tail_at, ended_at, rest_within, apdu_within, apdu_at}
+use Rattle.apdu.specs.Reading.{span_to, part_at, optional_at, parts_within, parts_at, with_additions, data_within, data_at, kind_mode, leading_at, tail_at, ended_at, rest_within, apdu_within, apdu_at}
 use Rattle.pdus.specs.declared.PduType.{PduType}
 use Rattle.apdu.specs.declared.Data.{Data}
 use Rattle.apdu.specs.declared.Apdu.{Apdu}
 use Rattle.apdu.specs.declared.Apdu.TheVariants as apdu
-use Rattle.apdu.specs.declared.Taken.TheVariants as taken
-use Rattle.apdu.specs.declared.Decoded.TheVariants as decoded
 use Rattle.apdu.proofs.Contents.{is_there, OptionalRead, optional_written, there_identifier, there_message, presence_fits, string_back, DataRead}
 use Rattle.apdu.proofs.Apdus.{mode_written, small, has, ended_well, FieldsRead, ApduRead}
 use Rattle.apdu.proofs.Theorems.{stands_front, tail_padded}
 use Rattle.places.specs.Later.{later_bits, later_start, later_send}
+use Rattle.std.specs.Prelude.{Ok}
 
 -- ---- message data
 
@@ -38,9 +35,9 @@ use Rattle.places.specs.Later.{later_bits, later_start, later_send}
 record RootRead (l : List ℕ) (at next : ℕ) (c : Content) : Type 0 where
   flags : ℕ
   from : ℕ
-  presence_read : bit_field l at 2 ≡ Value flags from
+  presence_read : bit_field l at 2 ≡ Ok (flags, from)
   parts : Data
-  read : parts_at l from (leb 2 flags) (eqb (flags % 2) 1) ≡ taken.Is parts next
+  read : parts_at l from (leb 2 flags) (eqb (flags % 2) 1) ≡ Ok (parts, next)
   content : content_in l l l parts ≡ c
 
 root_written : (l : List ℕ) (at next : ℕ) (c : Content) → content_fits c ≡ true → Stands l at (root_bits c) next → RootRead l at next c

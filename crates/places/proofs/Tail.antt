@@ -20,8 +20,6 @@ use Rattle.fields.specs.Fields.{refusal, refused_at, then, bit_field, digits_in,
 use Rattle.fields.specs.declared.Fault.{Fault}
 use Rattle.fields.specs.declared.Fault.TheVariants.{Short, Range, LengthForm, Limit, Default, Tail}
 use Rattle.fields.specs.declared.Refusal.{Refusal}
-use Rattle.fields.specs.declared.Field.{Field}
-use Rattle.fields.specs.declared.Field.TheVariants.{Value, Refused}
 use Rattle.fields.proofs.RoundTrip.{Stands, bit_field_is}
 use Rattle.fields.proofs.Widths.{width_within, width_holds, width_fewest}
 use Rattle.apdu.specs.Encoding.{padding}
@@ -29,12 +27,13 @@ use Rattle.apdu.specs.Reading.{tail_at}
 use Rattle.apdu.specs.Reading.{apdu_at}
 use Rattle.pdus.specs.declared.PduType.{PduType}
 use Rattle.apdu.specs.declared.Apdu.{Apdu}
-use Rattle.apdu.specs.declared.Decoded.TheVariants as decoded
 use Rattle.apdu.proofs.Bounds.{never}
 use Rattle.apdu.proofs.Spared.{Not, bits_spared}
 use Rattle.apdu.proofs.Apdus.{Standing}
 use Rattle.apdu.proofs.Order.{tail_last}
 use Rattle.places.specs.Readings.{TailAt}
+use Rattle.std.specs.Prelude.{Err, Ok}
+use Rattle.fields.specs.Fields.{Reading}
 
 -- ---- the bits of a number: before its first digit 0, and that one 1
 
@@ -66,7 +65,7 @@ bit_of l at next k bs s h = sym (get_or-drop at l k 0) ∙
 
 -- ---- the padding
 
-module _ (l : List ℕ) (at v next : ℕ) (b : Bits l) (e : bit_field l at (padding at) ≡ Value v next) where
+module _ (l : List ℕ) (at v next : ℕ) (b : Bits l) (e : bit_field l at (padding at) ≡ Ok (v, next)) where
   n : ℕ
   n = padding at
 
@@ -136,7 +135,7 @@ module _ (l : List ℕ) (at v next : ℕ) (b : Bits l) (e : bit_field l at (padd
 
 -- ---- TAIL
 
-one_refusal : (r q : Refusal) → Refused r ≡ Refused q → r ≡ q
+one_refusal : (r q : Refusal) → ◌≡◌ {A = Reading ℕ} (Err r) (Err q) → r ≡ q
 one_refusal r q e = cc
 
 -- TAIL is none of the faults of a field
@@ -150,20 +149,20 @@ tail_not r x =
       default = λ (e : Default ≡ r.fault). never (cc);
     }
 
-pub tail_place : (l : List ℕ) (at : ℕ) (r : Refusal) → Bits l → r.fault ≡ Tail → tail_at l at ≡ Refused r → TailAt l at r.at
+pub tail_place : (l : List ℕ) (at : ℕ) (r : Refusal) → Bits l → r.fault ≡ Tail → tail_at l at ≡ Err r → TailAt l at r.at
 unfolding tail_at
 tail_place l at r b x e = by (bit_field l at (padding at)) refl e
   where
-    to : (p : ℕ) → Refused (refusal p Tail) ≡ Refused r → TailAt l at p → TailAt l at r.at
+    to : (p : ℕ) → ◌≡◌ {A = Reading ℕ} (Err (refusal p Tail)) (Err r) → TailAt l at p → TailAt l at r.at
     to p q t = subst (λ (y : Refusal). TailAt l at y.at) (one_refusal (refusal p Tail) r q) t
 
-    last : (v next : ℕ) → bit_field l at (padding at) ≡ Value v next → v ≡ 0 → (t : Bool) → leb (next + 1) (length l) ≡ t
-        → cond t (refused_at next Tail) (Value 0 next) ≡ Refused r → TailAt l at r.at
+    last : (v next : ℕ) → bit_field l at (padding at) ≡ Ok (v, next) → v ≡ 0 → (t : Bool) → leb (next + 1) (length l) ≡ t
+        → cond {A = Reading ℕ} t (refused_at next Tail) (Ok (0, next)) ≡ Err r → TailAt l at r.at
     last v next f z true q u = let n = ends l at v next b f in let w : next + 1 ≤ length l = leb-true _ _ q in to next u (record { behind = omega arith; clear = all_clear l at v next b f z; there = inr (n, omega arith) })
     last v next f z false q u = never (cc)
 
-    go : (v next : ℕ) → bit_field l at (padding at) ≡ Value v next → (t : Bool) → eqb v 0 ≡ t
-        → cond t (cond (leb (next + 1) (length l)) (refused_at next Tail) (Value 0 next)) (refused_at (next - width_of v) Tail) ≡ Refused r
+    go : (v next : ℕ) → bit_field l at (padding at) ≡ Ok (v, next) → (t : Bool) → eqb v 0 ≡ t
+        → cond {A = Reading ℕ} t (cond (leb (next + 1) (length l)) (refused_at next Tail) (Ok (0, next))) (refused_at (next - width_of v) Tail) ≡ Err r
         → TailAt l at r.at
     go v next f true p u = last v next f (eqb-true v 0 p) (leb (next + 1) (length l)) refl u
     go v next f false p u =
@@ -174,11 +173,11 @@ tail_place l at r b x e = by (bit_field l at (padding at)) refl e
         let s = some l at v next b f pos in
         to (next - width_of v) u (record { behind = omega arith; clear = before_clear l at v next b f pos; there = inl (omega arith, first_set l at v next b f pos) })
 
-    by : (f : Field) → bit_field l at (padding at) ≡ f
-        → then f (λ (v next : ℕ). cond (eqb v 0) (cond (leb (next + 1) (length l)) (refused_at next Tail) (Value 0 next)) (refused_at (next - width_of v) Tail)) ≡ Refused r
+    by : (f : Reading ℕ) → bit_field l at (padding at) ≡ f
+        → then {A = ℕ} {B = ℕ × ℕ} f (λ (v next : ℕ). cond (eqb v 0) (cond (leb (next + 1) (length l)) (refused_at next Tail) (Ok (0, next))) (refused_at (next - width_of v) Tail)) ≡ Err r
         → TailAt l at r.at
-    by (Refused q) f k = absurd (bits_spared r (tail_not r x) l at (padding at) (f ∙ k))
-    by (Value v next) f k = go v next f (eqb v 0) refl k
+    by (Err q) f k = absurd (bits_spared r (tail_not r x) l at (padding at) (f ∙ k))
+    by (Ok (v, next)) f k = go v next f (eqb v 0) refl k
 
 -- ---- of an APDU: all its fields stand, to an end, and the place is that of the tail behind it
 
@@ -189,7 +188,7 @@ pub record TailPlaced (pdus : PduType) (l : List ℕ) (p : ℕ) : Type 0 where
   pub place : TailAt l end p
 
 pub apdu_tail_place : (pdus : PduType) (l : List ℕ) (p : ℕ) → Bits l
-    → apdu_at pdus l 0 ≡ decoded.Refused (refusal p Tail) → TailPlaced pdus l p
+    → apdu_at pdus l 0 ≡ Err (refusal p Tail) → TailPlaced pdus l p
 apdu_tail_place pdus l p b e =
     let t = tail_last p pdus l 0 b e in
     record { value = t.value; end = t.place; stands = t.stands; place = tail_place l t.place (refusal p Tail) b refl t.tail }

@@ -1,11 +1,9 @@
 -- Where a refusal is (document 02, E1): what is claimed of the place that it carries, over any reader.
 -- A reader is a function of the bits; `seen` tells of its answer the place after what was read, or the refusal.
-use Rattle.std.specs.Prelude.{◌≡◌, List, ℕ, ◌≤◌, ◌<◌, length, take}
-use Rattle.fields.specs.Fields.{refusal}
+use Rattle.std.specs.Prelude.{◌≡◌, List, ℕ, ◌≤◌, ◌<◌, length, take, Err, Ok}
+use Rattle.fields.specs.Fields.{Reading, refusal}
 use Rattle.fields.specs.declared.Fault.TheVariants.{Short, Tail}
 use Rattle.fields.specs.declared.Refusal.{Refusal}
-use Rattle.fields.specs.declared.Field.{Field}
-use Rattle.fields.specs.declared.Field.TheVariants.{Value, Refused}
 
 -- what an answer tells: the place after what was read, or the refusal
 pub data Seen : Type 0 where
@@ -46,6 +44,6 @@ pub record Sound {A : Type 0} (seen : A → Seen) (rd : List ℕ → A) (l : Lis
   pub next : (n : ℕ) → seen (rd l) ≡ went n → Went rd l at n
   pub place : Refusing seen rd l at
 
-abbrev pub seen_field : Field → Seen
-seen_field (Value v n) = went n
-seen_field (Refused r) = refused r
+abbrev pub seen_field : {A : Type 0} → Reading A → Seen
+seen_field (Ok (v, n)) = went n
+seen_field (Err r) = refused r

@@ -8,15 +8,13 @@ use native.Mathlib.Omega.{arith}
 use borrow.Author.Tests.{le-leb, lt-ltb, ltb-true, eqb-true, eqb-false}
 use lib.Dec.{leb, ltb, eqb}
 use lib.ListN.{length, take, drop}
-use Rattle.words.proofs.Laws.{both_left, both_right}
+use Rattle.words.proofs.Laws.{both_left, both_right, ok_value, ok_place}
 use Rattle.bits.specs.Bits.{bits_n}
 use Rattle.bits.proofs.Numbers.{Bits}
 use Rattle.bits.proofs.Bytes.{bits_take, bits_drop, length_part}
-use Rattle.fields.specs.Fields.{bit_field, onto}
+use Rattle.fields.specs.Fields.{bit_field, then}
 use Rattle.fields.specs.Encodings.{within_fits}
 use Rattle.fields.specs.declared.Refusal.{Refusal}
-use Rattle.fields.specs.declared.Field.{Field}
-use Rattle.fields.specs.declared.Field.TheVariants.{Value, Refused}
 use Rattle.fields.proofs.RoundTrip.{Stands, stands_join, stands_split, bit_field_is}
 use Rattle.elements.proofs.Standing.{both_hold}
 use Rattle.kinds.specs.declared.Direction.{Direction}
@@ -25,27 +23,23 @@ use Rattle.inplace.proofs.Laws.{InPlace, message_in_place, elements_in_place}
 use Rattle.apdu.specs.Sizes.{message_most, check_most, bit}
 use Rattle.apdu.specs.Headings.{heading_bits, heading_fits}
 use Rattle.apdu.specs.Pdus.{Optional, absent, given, Content, items_in, part_in, content_in}
-use Rattle.apdu.specs.Reading.{on_heading, heading_at}
+use Rattle.apdu.specs.Reading.{heading_at}
 use Rattle.apdu.specs.InPlace.{bits_in, perhaps_bits, headed_bits}
 use Rattle.apdu.specs.Writing.{part_fits, data_fits, forward_fits}
 use Rattle.pdus.specs.declared.Span.{Span}
 use Rattle.apdu.specs.declared.Data.{Data}
 use Rattle.apdu.specs.declared.Heading.{Heading}
-use Rattle.apdu.specs.declared.Headed.{Headed}
-use Rattle.apdu.specs.declared.Headed.TheVariants as headed
 use Rattle.apdu.specs.declared.Forward.{Forward}
-use Rattle.apdu.specs.declared.Forwarded.{Forwarded}
-use Rattle.apdu.specs.declared.Forwarded.TheVariants as forwarded
-use Rattle.apdu.specs.declared.Taken.{Taken}
-use Rattle.apdu.specs.declared.Taken.TheVariants as taken
 use Rattle.apdu.proofs.Bounds.{never, fits_items}
-use Rattle.apdu.proofs.Contents.{stands_at, stands_none, via}
+use Rattle.apdu.proofs.Contents.{stands_at, stands_none}
+use Rattle.front.proofs.Laws.{via}
 use Rattle.apdu.proofs.Forwards.{heading_written, heading_read}
-use Rattle.front.proofs.Runs.{Ends, RunLaws}
+use Rattle.front.proofs.Runs.{Ends, RunLaws, ends_at_is, at_end}
 use Rattle.plain.specs.Plain.{direction_of, takes_all, is_absent, is_empty, message_fits, content_fits, elements_fit, no_message, message_there, send_at, start_at, forward_at}
 use Rattle.plain.proofs.Runs.{ends_by}
 use Rattle.plain.proofs.Instance.{message_most_is, message_laws, elements_few, elements_laws}
-use Rattle.plain.proofs.Shapes.{ends_at_is, at_end}
+use Rattle.std.specs.Prelude.{Err, Ok}
+use Rattle.fields.specs.Fields.{Reading}
 
 -- ---- values
 
@@ -111,16 +105,16 @@ none_placed l = fits_items l bit 0 check_most (span 0 0) (record { fits = refl; 
 
 -- ---- a reader in place
 
-module _ (rd : List ℕ → ℕ → Field) (p : InPlace rd) (laws : RunLaws rd) where
+module _ (rd : List ℕ → ℕ → Reading ℕ) (p : InPlace rd) (laws : RunLaws rd) where
   read_there : (l : List ℕ) (at next : ℕ) (m : List ℕ) → Bits l → takes_all rd m ≡ true → Stands l at m next
-      → rd l at ≡ Value (length m) next
+      → rd l at ≡ Ok (length m, next)
   read_there l at next m b h s =
       let e = ends_at_is (rd m 0) (length m) h in
       let k : Bits m = subst Bits s.holds (bits_take (length m) (drop at l) (bits_drop at l b)) in
       let r = laws.anywhere m l at next k e s in
       let z = ends_by rd p l at r.value next b r.is in
       let n : r.value ≡ length m = omega (arith, s.place) in
-      r.is ∙ ap (λ (x : ℕ). Value x next) n
+      r.is ∙ ap (λ (x : ℕ). Ok (x, next)) n
 
   record RunIs (l : List ℕ) (at n next : ℕ) : Type 0 where
     end : next ≡ at + n
@@ -130,7 +124,7 @@ module _ (rd : List ℕ → ℕ → Field) (p : InPlace rd) (laws : RunLaws rd) 
     whole : takes_all rd (take n (drop at l)) ≡ true
     stands : Stands l at (take n (drop at l)) next
 
-  run_there : (l : List ℕ) (at n next : ℕ) → Bits l → rd l at ≡ Value n next → RunIs l at n next
+  run_there : (l : List ℕ) (at n next : ℕ) → Bits l → rd l at ≡ Ok (n, next) → RunIs l at n next
   run_there l at n next b e =
       let a = laws.apart l at n next b e in
       let z = ends_by rd p l at n next b e in
@@ -144,9 +138,9 @@ module _ (rd : List ℕ → ℕ → Field) (p : InPlace rd) (laws : RunLaws rd) 
 
 -- ---- message data, written and read
 
-pub record DataRead (f : Taken) (l : List ℕ) (next : ℕ) (c : Content) : Type 0 where
+pub record DataRead (f : Reading Data) (l : List ℕ) (next : ℕ) (c : Content) : Type 0 where
   pub parts : Data
-  pub read : f ≡ taken.Is parts next
+  pub read : f ≡ Ok (parts, next)
   pub same : content_in l l l parts ≡ c
 
 -- bs: the bits of a message, or none, as a send or a start has them
@@ -186,7 +180,7 @@ module _ (d : Direction) where
           let r = send_written l (at + length (bits_n 1 1)) next c m b i e w.second in
           record { parts = r.parts; read = rw a r.read; same = r.same }
 
-  message_is : (l : List ℕ) (at n next : ℕ) → Bits l → message_span d l at ≡ Value n next → DataIs d bits_in l at next (message_there at n)
+  message_is : (l : List ℕ) (at n next : ℕ) → Bits l → message_span d l at ≡ Ok (n, next) → DataIs d bits_in l at next (message_there at n)
   unfolding content_fits bits_in
   message_is l at n next b e =
       let r = run_there (message_span d) (message_in_place d) (message_laws d) l at n next b e in
@@ -198,27 +192,21 @@ module _ (d : Direction) where
         stands = subst (λ (c : Content). Stands l at (bits_in c.message) next) (sym (there_content l at n)) r.stands;
       }
 
-  pub send_read : (l : List ℕ) (at next : ℕ) (x : Data) → Bits l → send_at d l at ≡ taken.Is x next → DataIs d bits_in l at next x
+  pub send_read : (l : List ℕ) (at next : ℕ) (x : Data) → Bits l → send_at d l at ≡ Ok (x, next) → DataIs d bits_in l at next x
   unfolding send_at
   send_read l at next x b e =
-      via (DataIs d bits_in l at next x) taken.Refused (taken.Is x next) no (message_span d l at) _ (λ (n m : ℕ) (f : message_span d l at ≡ Value n m) (k : taken.Is (message_there at n) m ≡ taken.Is x next).
-      let z : m ≡ next = cc in
-      let y : message_there at n ≡ x = cc in
-      subst (λ (q : Data). DataIs d bits_in l at next q) y (message_is l at n next b (f ∙ ap (Value n) z))) e
-    where
-      no : (r : Refusal) → taken.Refused r ≡ taken.Is x next → DataIs d bits_in l at next x
-      no r k = never (cc)
+      via (DataIs d bits_in l at next x) (message_span d l at) _ (x, next) (λ (n m : ℕ) (f : message_span d l at ≡ Ok (n, m)) (k : ◌≡◌ {A = Reading Data} (Ok (message_there at n, m)) (Ok (x, next))).
+      let z : m ≡ next = ok_place k in
+      let y : message_there at n ≡ x = ok_value k in
+      subst (λ (q : Data). DataIs d bits_in l at next q) y (message_is l at n next b (f ∙ ap (λ (place : ℕ). Ok (n, place)) z))) e
 
   -- a send has a message
-  pub send_there : (l : List ℕ) (at next : ℕ) (x : Data) → send_at d l at ≡ taken.Is x next → is_absent (content_in l l l x).message ≡ false
+  pub send_there : (l : List ℕ) (at next : ℕ) (x : Data) → send_at d l at ≡ Ok (x, next) → is_absent (content_in l l l x).message ≡ false
   unfolding send_at content_in part_in
   send_there l at next x e =
-      via (is_absent (content_in l l l x).message ≡ false) taken.Refused (taken.Is x next) no (message_span d l at) _ (λ (n m : ℕ) (f : message_span d l at ≡ Value n m) (k : taken.Is (message_there at n) m ≡ taken.Is x next).
-      let y : message_there at n ≡ x = cc in
+      via (is_absent (content_in l l l x).message ≡ false) (message_span d l at) _ (x, next) (λ (n m : ℕ) (f : message_span d l at ≡ Ok (n, m)) (k : ◌≡◌ {A = Reading Data} (Ok (message_there at n, m)) (Ok (x, next))).
+      let y : message_there at n ≡ x = ok_value k in
       subst (λ (q : Data). is_absent (content_in l l l q).message ≡ false) y refl) e
-    where
-      no : (r : Refusal) → taken.Refused r ≡ taken.Is x next → is_absent (content_in l l l x).message ≡ false
-      no r k = never (cc)
 
   none_is : (l : List ℕ) (at next : ℕ) → Stands l at (bits_n 1 0) next → DataIs d perhaps_bits l at next no_message
   unfolding content_fits content_in part_in perhaps_bits bits_in
@@ -236,24 +224,21 @@ module _ (d : Direction) where
       go absent h k = never (cc)
       go (given m) h k = stands_join l at p next (bits_n 1 1) (bits_in (given m)) s k
 
-  pub start_read : (l : List ℕ) (at next : ℕ) (x : Data) → Bits l → start_at d l at ≡ taken.Is x next → DataIs d perhaps_bits l at next x
+  pub start_read : (l : List ℕ) (at next : ℕ) (x : Data) → Bits l → start_at d l at ≡ Ok (x, next) → DataIs d perhaps_bits l at next x
   unfolding start_at
   start_read l at next x b e =
-      via (DataIs d perhaps_bits l at next x) taken.Refused (taken.Is x next) no (bit_field l at 1) _ (λ (i p : ℕ) (f : bit_field l at 1 ≡ Value i p) (k : cond (eqb i 0) (taken.Is no_message p) (send_at d l p) ≡ taken.Is x next).
+      via (DataIs d perhaps_bits l at next x) (bit_field l at 1) _ (x, next) (λ (i p : ℕ) (f : bit_field l at 1 ≡ Ok (i, p)) (k : cond (eqb i 0) (Ok (no_message, p)) (send_at d l p) ≡ Ok (x, next)).
       go i p f (eqb i 0) refl k) e
     where
-      no : (r : Refusal) → taken.Refused r ≡ taken.Is x next → DataIs d perhaps_bits l at next x
-      no r k = never (cc)
-
       one_bit : (i : ℕ) → i < 2 → eqb i 0 ≡ false → i ≡ 1
       one_bit i h q = let n = eqb-false i 0 q in omega arith
 
-      go : (i p : ℕ) → bit_field l at 1 ≡ Value i p → (t : Bool) → eqb i 0 ≡ t
-          → cond t (taken.Is no_message p) (send_at d l p) ≡ taken.Is x next → DataIs d perhaps_bits l at next x
+      go : (i p : ℕ) → bit_field l at 1 ≡ Ok (i, p) → (t : Bool) → eqb i 0 ≡ t
+          → cond t (Ok (no_message, p)) (send_at d l p) ≡ Ok (x, next) → DataIs d perhaps_bits l at next x
       go i p f true q k =
           let z : i ≡ 0 = eqb-true i 0 q in
-          let y : p ≡ next = cc in
-          let w : no_message ≡ x = cc in
+          let y : p ≡ next = ok_place k in
+          let w : no_message ≡ x = ok_value k in
           subst (λ (v : Data). DataIs d perhaps_bits l at next v) w (none_is l at next
           (stands_at l at p next (bits_n 1 0) y (rw z at ((bit_field_is 1).read_written l at i p b f))))
       go i p f false q k =
@@ -263,9 +248,9 @@ module _ (d : Direction) where
 
 -- ---- a forward message
 
-pub record ForwardRead (f : Forwarded) (l : List ℕ) (next : ℕ) (h : Heading) (m : List ℕ) : Type 0 where
+pub record ForwardRead (f : Reading Forward) (l : List ℕ) (next : ℕ) (h : Heading) (m : List ℕ) : Type 0 where
   pub value : Forward
-  pub read : f ≡ forwarded.Is value next
+  pub read : f ≡ Ok (value, next)
   pub heading : value.heading ≡ h
   pub message : items_in l bit value.message ≡ m
 
@@ -286,7 +271,7 @@ pub record ForwardIs (l : List ℕ) (at : ℕ) (f : Forward) (next : ℕ) : Type
   pub stands : Stands l at (headed_bits f.heading (items_in l bit f.message)) next
   pub end : f.message.at + f.message.count ≡ next
 
-elements_is : (l : List ℕ) (at p n next : ℕ) (h : Heading) → Bits l → heading_at l at ≡ headed.Is h p → elements_span (direction_of h.direction) l p ≡ Value n next → ForwardIs l at (record { heading = h; message = span p n }) next
+elements_is : (l : List ℕ) (at p n next : ℕ) (h : Heading) → Bits l → heading_at l at ≡ Ok (h, p) → elements_span (direction_of h.direction) l p ≡ Ok (n, next) → ForwardIs l at (record { heading = h; message = span p n }) next
 unfolding forward_fits headed_bits elements_fit
 elements_is l at p n next h b e g =
     let i = heading_read l at h p b e in
@@ -303,20 +288,9 @@ elements_is l at p n next h b e g =
       end = sym r.end;
     }
 
-pub forward_read : (l : List ℕ) (at : ℕ) (f : Forward) (next : ℕ) → Bits l → forward_at l at ≡ forwarded.Is f next → ForwardIs l at f next
+pub forward_read : (l : List ℕ) (at : ℕ) (f : Forward) (next : ℕ) → Bits l → forward_at l at ≡ Ok (f, next) → ForwardIs l at f next
 unfolding forward_at
-forward_read l at f next b e = go (heading_at l at) refl e
-  where
-    on : (h : Heading) (p : ℕ) → heading_at l at ≡ headed.Is h p → (s : Field) → elements_span (direction_of h.direction) l p ≡ s
-        → onto forwarded.Refused s (λ (n m : ℕ). forwarded.Is (record { heading = h; message = span p n }) m) ≡ forwarded.Is f next → ForwardIs l at f next
-    on h p q (Value n m) g k =
-        let z : m ≡ next = cc in
-        let y : record { heading = h; message = span p n } ≡ f = cc in
-        subst (λ (x : Forward). ForwardIs l at x next) y (elements_is l at p n next h b q (g ∙ ap (Value n) z))
-    on h p q (Refused r) g k = never (cc)
-
-    go : (t : Headed) → heading_at l at ≡ t
-        → on_heading t (λ (h : Heading) (p : ℕ). onto forwarded.Refused (elements_span (direction_of h.direction) l p) (λ (n m : ℕ). forwarded.Is (record { heading = h; message = span p n }) m)) ≡ forwarded.Is f next
-        → ForwardIs l at f next
-    go (headed.Is h p) q k = on h p q (elements_span (direction_of h.direction) l p) refl k
-    go (headed.Refused r) q k = never (cc)
+forward_read l at f next b e =
+    via (ForwardIs l at f next) (heading_at l at) _ (f, next) (λ (h : Heading) (p : ℕ) (q : heading_at l at ≡ Ok (h, p)) (k : then (elements_span (direction_of h.direction) l p) (λ (n m : ℕ). Ok (record { heading = h; message = span p n }, m)) ≡ Ok (f, next)).
+    via (ForwardIs l at f next) (elements_span (direction_of h.direction) l p) _ (f, next) (λ (n m : ℕ) (g : elements_span (direction_of h.direction) l p ≡ Ok (n, m)) (j : ◌≡◌ {A = Reading Forward} (Ok (record { heading = h; message = span p n }, m)) (Ok (f, next))).
+    subst (λ (x : Forward). ForwardIs l at x next) (ok_value j) (elements_is l at p n next h b q (g ∙ ap (λ (place : ℕ). Ok (n, place)) (ok_place j)))) k) e

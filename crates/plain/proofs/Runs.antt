@@ -9,12 +9,10 @@ use borrow.Author.Tests.{eqb-true, eq-eqb}
 use lib.Dec.{eqb}
 use lib.ListN.{length, take, drop, length-append}
 use lib.Seq.{take-length}
-use Rattle.words.proofs.Laws.{both_left, both_right}
+use Rattle.words.proofs.Laws.{both_left, both_right, ok_value, ok_place}
 use Rattle.bits.specs.Bits.{bits_n}
 use Rattle.bits.proofs.Numbers.{Bits, length_bits_n}
 use Rattle.bits.proofs.Bytes.{bits_take, bits_drop}
-use Rattle.fields.specs.declared.Field.{Field}
-use Rattle.fields.specs.declared.Field.TheVariants.{Value, Refused}
 use Rattle.fields.proofs.RoundTrip as trip
 use Rattle.kinds.specs.declared.Direction.{Direction}
 use Rattle.elements.proofs.Standing.{Stands, as_field, of_field, both_hold}
@@ -23,35 +21,35 @@ use Rattle.inplace.proofs.Laws.{InPlace, Found, is_all, takes_all, in_place, ele
 use Rattle.apdu.specs.Headings.{address_bits, aircraft_bits, heading_bits, heading_fits}
 use Rattle.apdu.specs.Reading.{heading_at}
 use Rattle.apdu.specs.declared.Heading.{Heading}
-use Rattle.apdu.specs.declared.Headed.{Headed}
-use Rattle.apdu.specs.declared.Headed.TheVariants as headed
 use Rattle.apdu.proofs.Forwards.{heading_written, heading_read}
 use Rattle.front.specs.Runs.{is_bits}
 use Rattle.front.proofs.Runs.{Ends, Apart, RunLaws, is_bits_is, bits_is}
-use Rattle.front.proofs.Laws.{run_most}
+use Rattle.front.proofs.Laws.{via, run_most}
 use Rattle.elements.proofs.Steps.{never}
 use Rattle.plain.specs.Plain.{direction_of}
-use Rattle.plain.proofs.Bodies.{from, headed_span, forward_span}
+use Rattle.plain.proofs.Bodies.{forward_span}
+use Rattle.std.specs.Prelude.{Err, Ok}
+use Rattle.fields.specs.Fields.{Reading, then}
 
 -- ---- a run
 
-module _ (rd : List ℕ → ℕ → Field) (p : InPlace rd) where
+module _ (rd : List ℕ → ℕ → Reading ℕ) (p : InPlace rd) where
   -- where it ends, by its count
-  pub ends_by : (l : List ℕ) (at n next : ℕ) → Bits l → rd l at ≡ Value n next → next ≡ at + n
+  pub ends_by : (l : List ℕ) (at n next : ℕ) → Bits l → rd l at ≡ Ok (n, next) → next ≡ at + n
   ends_by l at n next b e =
       let s = p.stands l at n next b e in
       let c = p.count l at n next b e in
       omega (arith, s.place)
 
-  whole : (v : List ℕ) (f : Field) → Bits v → rd v 0 ≡ f → is_all (length v) f ≡ true → Ends f (length v)
-  whole v (Value k m) b e t =
+  whole : (v : List ℕ) (f : Reading ℕ) → Bits v → rd v 0 ≡ f → is_all (length v) f ≡ true → Ends f (length v)
+  whole v (Ok (k, m)) b e t =
       let n : k ≡ length v = eqb-true k (length v) t in
       let z = ends_by v 0 k m b e in
       let q : m ≡ length v = omega arith in
-      record { value = k; is = ap (Value k) q }
-  whole v (Refused r) b e t = never (cc)
+      record { value = k; is = ap (λ (place : ℕ). Ok (k, place)) q }
+  whole v (Err r) b e t = never (cc)
 
-  run_apart : (l : List ℕ) (at n next : ℕ) → Bits l → rd l at ≡ Value n next → Apart rd l at next
+  run_apart : (l : List ℕ) (at n next : ℕ) → Bits l → rd l at ≡ Ok (n, next) → Apart rd l at next
   unfolding takes_all
   run_apart l at n next b e =
       let s = p.stands l at n next b e in
@@ -90,32 +88,26 @@ some_heading : (h : Heading) → 0 < length (heading_bits h)
 unfolding heading_bits aircraft_bits
 some_heading h = simp length-append (omega (arith, length_bits_n address_bits h.address))
 
-pub forward_found : (l : List ℕ) (at n next : ℕ) → Bits l → forward_span l at ≡ Value n next → Found right bits_of l at n next
+pub forward_found : (l : List ℕ) (at n next : ℕ) → Bits l → forward_span l at ≡ Ok (n, next) → Found right bits_of l at n next
 unfolding forward_span
-forward_found l at n next b e = go (heading_at l at) refl e
-  where
-    go : (t : Headed) → heading_at l at ≡ t → headed_span l at t ≡ Value n next → Found right bits_of l at n next
-    go (headed.Is h p) eh k = on (elements_span (direction_of h.direction) l p) refl k
-      where
-        on : (f : Field) → elements_span (direction_of h.direction) l p ≡ f → from at f ≡ Value n next → Found right bits_of l at n next
-        on (Value m q) ee j =
-            let z : q ≡ next = cc in
-            let c : q - at ≡ n = cc in
-            let i = heading_read l at h p b eh in
-            let pl = elements_in_place (direction_of h.direction) in
-            let s = pl.stands l p m q b ee in
-            let t = pl.takes l p m q b ee in
-            let w = trip.stands_join l at p q (heading_bits h) (take m (drop p l)) i.stands s in
-            let some = some_heading h in
-            let long = length-append (heading_bits h) (take m (drop p l)) in
-            let pw = w.place in
-            let ok : right (record { heading = h; elements = take m (drop p l) }) ≡ true = both_hold _ _ i.fits (both_hold _ _ (bits_is (take m (drop p l)) (bits_take m (drop p l) (bits_drop p l b))) t) in
-            record { value = record { heading = h; elements = take m (drop p l) }; there = rw (← z) (of_field l at q (right (record { heading = h; elements = take m (drop p l) })) (heading_bits h ++ take m (drop p l)) ok w); some = omega arith; long = omega arith }
-        on (Refused r) ee j = never (cc)
-    go (headed.Refused r) eh k = never (cc)
+forward_found l at n next b e =
+    via (Found right bits_of l at n next) (heading_at l at) _ (n, next) (λ (h : Heading) (p : ℕ) (eh : heading_at l at ≡ Ok (h, p)) (k : then (elements_span (direction_of h.direction) l p) (λ (m q : ℕ). Ok (q - at, q)) ≡ Ok (n, next)).
+    via (Found right bits_of l at n next) (elements_span (direction_of h.direction) l p) _ (n, next) (λ (m q : ℕ) (ee : elements_span (direction_of h.direction) l p ≡ Ok (m, q)) (j : ◌≡◌ {A = Reading ℕ} (Ok (q - at, q)) (Ok (n, next))).
+    let z : q ≡ next = ok_place j in
+    let c : q - at ≡ n = ok_value j in
+    let i = heading_read l at h p b eh in
+    let pl = elements_in_place (direction_of h.direction) in
+    let s = pl.stands l p m q b ee in
+    let t = pl.takes l p m q b ee in
+    let w = trip.stands_join l at p q (heading_bits h) (take m (drop p l)) i.stands s in
+    let some = some_heading h in
+    let long = length-append (heading_bits h) (take m (drop p l)) in
+    let pw = w.place in
+    let ok : right (record { heading = h; elements = take m (drop p l) }) ≡ true = both_hold _ _ i.fits (both_hold _ _ (bits_is (take m (drop p l)) (bits_take m (drop p l) (bits_drop p l b))) t) in
+    record { value = record { heading = h; elements = take m (drop p l) }; there = rw (← z) (of_field l at q (right (record { heading = h; elements = take m (drop p l) })) (heading_bits h ++ take m (drop p l)) ok w); some = omega arith; long = omega arith }) k) e
 
 pub forward_back : (l : List ℕ) (at next : ℕ) (v : Forwarded) → Stands l at (right v) (bits_of v) next
-    → forward_span l at ≡ Value (length (bits_of v)) next
+    → forward_span l at ≡ Ok (length (bits_of v), next)
 unfolding forward_span
 forward_back l at next v s =
     let h = v.heading in

@@ -1,28 +1,23 @@
 -- Message data of application type 2 (source document 004): a message stands in the APDU as it is, without a length, an identifier or a check. Of a
--- start it is a CHOICE of no_message and message (M-1.1.3, M-2.1.3); a forward message has the heading of type 22 and then the elements alone (M-9.1.2,
+-- start it is a CHOICE of noMessage and message (M-1.1.3, M-2.1.3); a forward message has the heading of type 22 and then the elements alone (M-9.1.2,
 -- M-10.1.2).
-use Rattle.std.specs.Prelude.{ℕ, List, [], ◌∷◌, Bool, true, false, cond, ◌&&◌, eqb, length}
-use Rattle.fields.specs.Fields.{bit_field, onto}
-use Rattle.fields.specs.declared.Field.{Field}
-use Rattle.fields.specs.declared.Field.TheVariants as field
+use Rattle.std.specs.Prelude.{ℕ, List, [], ◌∷◌, Bool, true, false, cond, ◌&&◌, eqb, length, Err, None, Ok, Option, Some}
+use Rattle.fields.specs.Fields.{Reading, bit_field, then}
 use Rattle.kinds.specs.declared.Direction.{Direction}
 use Rattle.kinds.specs.declared.Direction.TheVariants.{Downlink, Uplink}
+-- bits that a reader takes from the first to the last, as the front has them
+pub use Rattle.front.specs.Runs.{ends_at, takes_all}
 use Rattle.inplace.specs.InPlace.{message_span, elements_span}
 use Rattle.apdu.specs.Sizes.{bit}
 use Rattle.apdu.specs.Pdus.{Optional, absent, given, Content, items_in, content_in}
-use Rattle.apdu.specs.Reading.{on_heading, heading_at, tail_at, on_forward}
+use Rattle.apdu.specs.Reading.{heading_at, tail_at}
 use Rattle.apdu.specs.Writing.{data_fits, forward_fits}
 use Rattle.pdus.specs.declared.PduType.{PduType}
 use Rattle.pdus.specs.declared.PduType.TheVariants as pdus
-use Rattle.apdu.specs.declared.Part.{Part}
-use Rattle.apdu.specs.declared.Part.TheVariants as part
 use Rattle.apdu.specs.declared.Data.{Data}
 use Rattle.apdu.specs.declared.Heading.{Heading}
 use Rattle.apdu.specs.declared.Forward.{Forward}
-use Rattle.apdu.specs.declared.Taken.{Taken}
-use Rattle.apdu.specs.declared.Taken.TheVariants as taken
-use Rattle.apdu.specs.declared.Forwarded.{Forwarded}
-use Rattle.apdu.specs.declared.Forwarded.TheVariants as forwarded
+use Rattle.pdus.specs.declared.Span.{Span}
 
 -- ---- directions
 
@@ -37,21 +32,9 @@ direction_of z = cond (eqb z 0) Uplink Downlink
 
 -- ---- values
 
-abbrev pub ends_at : ℕ → Field → Bool
-ends_at n (field.Value v next) = eqb next n
-ends_at n (field.Refused r) = false
-
--- bits that a reader takes from the first to the last
-abbrev pub takes_all : (List ℕ → ℕ → Field) → List ℕ → Bool
-takes_all rd l = ends_at (length l) (rd l 0)
-
 abbrev pub is_absent : Optional → Bool
 is_absent absent = true
 is_absent (given l) = false
-
-abbrev pub is_none : Part → Bool
-is_none part.Absent = true
-is_none (part.Given x) = false
 
 abbrev pub is_empty : List ℕ → Bool
 is_empty [] = true
@@ -79,23 +62,23 @@ forward_given_fits lm f = forward_fits lm f && elements_fit f.heading (items_in 
 -- ---- reading
 
 abbrev pub no_message : Data
-no_message = record { identifier = part.Absent; message = part.Absent; check = record { at = 0; count = 0 } }
+no_message = record { identifier = None; message = None; check = record { at = 0; count = 0 } }
 
 -- a message of n bits at a place
 abbrev pub message_there : ℕ → ℕ → Data
-message_there at n = record { identifier = part.Absent; message = part.Given (record { at = at; count = n }); check = record { at = 0; count = 0 } }
+message_there at n = record { identifier = None; message = Some (record { at = at; count = n }); check = record { at = 0; count = 0 } }
 
-unfoldable pub send_at : Direction → List ℕ → ℕ → Taken
-send_at d l at = onto taken.Refused (message_span d l at) (λ (n next : ℕ). taken.Is (message_there at n) next)
+unfoldable pub send_at : Direction → List ℕ → ℕ → Reading Data
+send_at d l at = then (message_span d l at) (λ (n next : ℕ). Ok (message_there at n, next))
 
-unfoldable pub start_at : Direction → List ℕ → ℕ → Taken
-start_at d l at = onto taken.Refused (bit_field l at 1) (λ (i p : ℕ). cond (eqb i 0) (taken.Is no_message p) (send_at d l p))
+unfoldable pub start_at : Direction → List ℕ → ℕ → Reading Data
+start_at d l at = then (bit_field l at 1) (λ (i p : ℕ). cond (eqb i 0) (Ok (no_message, p)) (send_at d l p))
 
-unfoldable pub forward_at : List ℕ → ℕ → Forwarded
+unfoldable pub forward_at : List ℕ → ℕ → Reading Forward
 forward_at l at =
-    on_heading (heading_at l at) (λ (h : Heading) (p : ℕ).
-    onto forwarded.Refused (elements_span (direction_of h.direction) l p) (λ (n next : ℕ). forwarded.Is (record { heading = h; message = record { at = p; count = n } }) next))
+    then (heading_at l at) (λ (h : Heading) (p : ℕ).
+    then (elements_span (direction_of h.direction) l p) (λ (n next : ℕ). Ok (record { heading = h; message = record { at = p; count = n } }, next)))
 
 -- a forward message by itself, as it is delivered
-unfoldable pub whole_forward : List ℕ → Forwarded
-whole_forward l = on_forward forwarded.Refused (forward_at l 0) (λ (f : Forward) (next : ℕ). onto forwarded.Refused (tail_at l next) (λ (v m : ℕ). forwarded.Is f next))
+unfoldable pub whole_forward : List ℕ → Reading Forward
+whole_forward l = then (forward_at l 0) (λ (f : Forward) (next : ℕ). then (tail_at l next) (λ (v m : ℕ). Ok (f, next)))

@@ -3,8 +3,8 @@ ghost use Rattle.std.specs.Prelude.{◌≡◌};
 ghost use Rattle.apdu.specs.Pdus.{lent};
 ghost use Rattle.plain.specs.Plain.{direction_of, forward_at, message_there, no_message, send_at, sent_by, start_at, whole_forward};
 
-use apdu::{ALL, Data, Forward, Forwarded, Headed, Part, Taken, forward_refusal};
-use fields::{Field, refusal_of};
+use apdu::{ALL, Data, Forward};
+use fields::Reading;
 use inplace::{elements_span, message_span};
 use kinds::Direction;
 use pdus::{PduType, Span};
@@ -32,8 +32,8 @@ fn no_message() -> Data
     ensures { result ≡ no_message }
 {
     Data {
-        identifier: Part::Absent,
-        message: Part::Absent,
+        identifier: None,
+        message: None,
         check: Span { at: 0, count: 0 },
     }
 }
@@ -42,73 +42,59 @@ fn message_there(at: usize, count: usize) -> Data
     ensures { result ≡ message_there at count }
 {
     Data {
-        identifier: Part::Absent,
-        message: Part::Given(Span { at, count }),
+        identifier: None,
+        message: Some(Span { at, count }),
         check: Span { at: 0, count: 0 },
     }
 }
 
 // A message in place.
-pub fn send_at(direction: Direction, s: &[u8], at: usize) -> Taken
+#[tactic(auto, unfolding(crate::specs::Plain::send_at))]
+pub fn send_at(direction: Direction, s: &[u8], at: usize) -> Reading<Data>
     ensures { result ≡ send_at direction (lent s.now) at }
 {
-    let span = message_span(direction, s, ALL, at);
-    let Field::Value(n, next) = span else {
-        return Taken::Refused(refusal_of(span));
-    };
-    Taken::Is(message_there(at, n as usize), next)
+    let (n, next) = message_span(direction, s, ALL, at)?;
+    Ok((message_there(at, n as usize), next))
 }
 
 // A message in place, or none.
-pub fn start_at(direction: Direction, s: &[u8], at: usize) -> Taken
+#[tactic(auto, unfolding(crate::specs::Plain::start_at))]
+pub fn start_at(direction: Direction, s: &[u8], at: usize) -> Reading<Data>
     ensures { result ≡ start_at direction (lent s.now) at }
 {
-    let choice = fields::bit_field(s, ALL, at, 1);
-    let Field::Value(i, p) = choice else {
-        return Taken::Refused(refusal_of(choice));
-    };
+    let (i, p) = fields::bit_field(s, ALL, at, 1)?;
     if i == 0 {
-        return Taken::Is(no_message(), p);
+        return Ok((no_message(), p));
     }
     send_at(direction, s, p)
 }
 
 // A heading, and the elements of its direction in place.
-pub fn forward_at(s: &[u8], at: usize) -> Forwarded
+#[tactic(auto, unfolding(crate::specs::Plain::forward_at))]
+pub fn forward_at(s: &[u8], at: usize) -> Reading<Forward>
     ensures { result ≡ forward_at (lent s.now) at }
 {
-    let heading = apdu::heading_at(s, at);
-    let Headed::Is(h, p) = heading else {
-        return Forwarded::Refused(apdu::heading_refusal(heading));
-    };
-    let span = elements_span(direction_of(h.direction), s, ALL, p);
-    let Field::Value(n, next) = span else {
-        return Forwarded::Refused(refusal_of(span));
-    };
+    let (h, p) = apdu::heading_at(s, at)?;
+    let (n, next) = elements_span(direction_of(h.direction), s, ALL, p)?;
     let message = Span {
         at: p,
         count: n as usize,
     };
-    Forwarded::Is(
+    Ok((
         Forward {
             heading: h,
             message,
         },
         next,
-    )
+    ))
 }
 
 // A forward message by itself, as it is delivered to a user.
-pub fn read_forward(s: &[u8]) -> Forwarded
+#[tactic(auto, unfolding(crate::specs::Plain::whole_forward))]
+pub fn read_forward(s: &[u8]) -> Reading<Forward>
     ensures { result ≡ whole_forward (lent s.now) }
 {
-    let message = forward_at(s, 0);
-    let Forwarded::Is(f, next) = message else {
-        return Forwarded::Refused(forward_refusal(message));
-    };
-    let rest = apdu::tail(s, next);
-    let Field::Value(_, _) = rest else {
-        return Forwarded::Refused(refusal_of(rest));
-    };
-    Forwarded::Is(f, next)
+    let (f, next) = forward_at(s, 0)?;
+    apdu::tail(s, next)?;
+    Ok((f, next))
 }

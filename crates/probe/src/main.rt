@@ -9,35 +9,29 @@ mod request;
 mod shown;
 mod writers;
 
-use bits::Put;
-use fields::Field;
+use fields::Reading;
 use request::{HEADER, Request};
 use std::io;
 
 // The ops of writers begin here.
 const WRITERS: u64 = 128;
 
-// What a request is answered: what a reader or a writer finds, or that there is no such op.
+// What a request is answered: what a reader or a writer finds.
 #[derive(Drop)]
 enum Answer {
-    Read(Field),
-    Wrote(Put),
-    Unknown,
+    Read(Reading<u64>),
+    Wrote(Option<usize>),
 }
 
 // The bytes of src at the front of dst.
 fn paste(dst: &mut [u8], src: &[u8])
     requires { length src.now ≤ length dst.old }
 {
-    let mut i: usize = 0;
-    while i < src.len() {
-        dst[i] = src[i];
-        i += 1;
-    }
+    dst[..src.len()].copy_from_slice(src);
 }
 
-// The request asked of its function; a writer leaves the lent bytes as it does.
-fn ask(q: Request, lent: &mut [u8], source: &[u8]) -> Answer {
+// The request asked of its function, None where there is no such op; a writer leaves the lent bytes as it does.
+fn ask(q: Request, lent: &mut [u8], source: &[u8]) -> Option<Answer> {
     if q.op < WRITERS {
         return readers::read(q, lent);
     }
@@ -49,8 +43,13 @@ fn answered(rt: &impl Print, q: Request, lent: &mut [u8], body: &[u8], source: &
     requires { length body.now ≤ length lent.old }
 {
     paste(lent, body);
-    let a = ask(q, lent, source);
-    shown::answer_line(rt, a, lent)
+    match ask(q, lent, source) {
+        Some(a) => {
+            shown::answer_line(rt, a, lent);
+            true
+        }
+        None => false,
+    }
 }
 
 // Answers the request that the input begins with, and says how many bytes it took: none where the input ends inside it, or its
@@ -66,10 +65,7 @@ fn answer_next(rt: &impl Print, s: &[u8], room: &mut [u8]) -> usize
     let n = q.len;
     let m = q.more;
     let rest = s.len() - HEADER;
-    if rest < n {
-        return 0;
-    }
-    if rest - n < m {
+    if rest < n || rest - n < m {
         return 0;
     }
     let from = HEADER + n;

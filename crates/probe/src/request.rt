@@ -1,8 +1,6 @@
 // The header of a request.
 ghost use Rattle.std.specs.Prelude.{◌≤◌};
 
-use bits::Read;
-
 // How many bytes it has.
 pub(crate) const HEADER: usize = 45;
 
@@ -22,10 +20,10 @@ pub(crate) struct Request {
 fn number(s: &[u8], at: usize, n: usize) -> u64
     requires { (at ≤ 45) × (n ≤ 8) }
 {
-    let Read::Number(v, _) = bits::read_bits(s, 8 * HEADER, 8 * at, 8 * n) else {
-        return 0;
-    };
-    v
+    match bits::read_bits(s, 8 * HEADER, 8 * at, 8 * n) {
+        Some((v, _)) => v,
+        None => 0,
+    }
 }
 
 pub(crate) fn header(s: &[u8]) -> Request {

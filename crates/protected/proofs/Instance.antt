@@ -9,11 +9,10 @@ use borrow.Author.Tests.{eqb-false, ne_eqb}
 use lib.Dec.{eqb}
 use lib.ListN.{length, take, drop, get_or}
 use lib.Seq.{take-length, get_or-take, get_or-drop}
+use Rattle.words.proofs.Laws.{ok_value, ok_place}
 use Rattle.bits.specs.Bits.{bits_n}
 use Rattle.bits.proofs.Numbers.{Bits, bits_n_suc, length_bits_n}
 use Rattle.fields.specs.Fields.{digits_in, width_of}
-use Rattle.fields.specs.declared.Field.{Field}
-use Rattle.fields.specs.declared.Field.TheVariants.{Value, Refused}
 use Rattle.fields.proofs.RoundTrip.{Stands, stands_split}
 use Rattle.apdu.specs.Sizes.{user_last, provider_last, identifier_least, identifier_most, message_most, octet, bit}
 use Rattle.apdu.specs.Pdus.{Content as Protected, items_in, content_in}
@@ -21,20 +20,13 @@ use Rattle.apdu.specs.Encoding.{root_bits, content_bits, content_fits, forward_b
 use Rattle.apdu.specs.Reading.{data_at, forward_at}
 use Rattle.apdu.specs.Stripped.{root_end}
 use Rattle.apdu.specs.Writing.{part_fits, data_fits, forward_fits}
-use Rattle.apdu.specs.declared.Part.{Part}
-use Rattle.apdu.specs.declared.Part.TheVariants.{Absent, Given}
 use Rattle.apdu.specs.declared.Data.{Data}
 use Rattle.apdu.specs.declared.Forward.{Forward}
-use Rattle.apdu.specs.declared.Taken.{Taken as DataTaken}
-use Rattle.apdu.specs.declared.Taken.TheVariants as got
-use Rattle.apdu.specs.declared.Forwarded.{Forwarded}
-use Rattle.apdu.specs.declared.Forwarded.TheVariants as forwarded
 use Rattle.apdu.proofs.Bounds.{counted, items_fits, data_fits_is, content_most_is, data_value_fits, forward_value_fits, forward_most_is}
 use Rattle.apdu.proofs.Contents.{DataIs, data_written, data_read, data_mark, data_plain}
 use Rattle.apdu.proofs.Forwards.{forward_written, forward_read}
 use Rattle.apdu.proofs.Theorems.{content_are_bits}
 use Rattle.pdus.specs.declared.Content.{Content}
-use Rattle.front.specs.declared.Taken.TheVariants as taken
 use Rattle.front.specs.Body.{Lent, one}
 use Rattle.front.specs.Runs.{none, ends_at}
 use Rattle.apdu.proofs.Bounds.{never}
@@ -43,21 +35,24 @@ use Rattle.front.proofs.Runs.{Ends, Apart, RunLaws, run_laws}
 use Rattle.front.proofs.Alternatives.{EditionLaws, aircraft_laws, ground_laws}
 use Rattle.front.specs.Editions.{aircraft_pdus, ground_pdus}
 use Rattle.protected.specs.Bodies.{identifier_span, message_span, part_of, content_of, data_of, taken_of, protected_body, field_of, forward_field, type22}
+use Rattle.std.specs.Prelude.{Err, None, Ok, Option, Some}
+use Rattle.fields.specs.Fields.{Reading}
+use Rattle.pdus.specs.declared.Span.{Span}
 
 -- ---- places, there and back
 
-identifier_back : (l : List ℕ) (p : Part) → part_fits l octet identifier_least identifier_most p ≡ true → part_of 0 (identifier_span p) ≡ p
+identifier_back : (l : List ℕ) (p : Option Span) → part_fits l octet identifier_least identifier_most p ≡ true → part_of 0 (identifier_span p) ≡ p
 unfolding part_fits
-identifier_back l Absent h = refl
-identifier_back l (Given x) h =
+identifier_back l None h = refl
+identifier_back l (Some x) h =
     let i = counted identifier_least identifier_most x.count (items_fits l octet identifier_least identifier_most x h).fits in
     let k = i.low in
     rw (ne_eqb x.count 0 (λ (z : x.count ≡ 0). omega arith))
 
-message_back : (l : List ℕ) (p : Part) → part_fits l bit 0 message_most p ≡ true → part_of none (message_span p) ≡ p
+message_back : (l : List ℕ) (p : Option Span) → part_fits l bit 0 message_most p ≡ true → part_of none (message_span p) ≡ p
 unfolding part_fits
-message_back l Absent h = refl
-message_back l (Given x) h =
+message_back l None h = refl
+message_back l (Some x) h =
     let i = counted 0 message_most x.count (items_fits l bit 0 message_most x h).fits in
     let k = i.high in
     rw (ne_eqb x.count none (λ (z : x.count ≡ none). omega arith))
@@ -86,16 +81,16 @@ record Read (l : List ℕ) (at next : ℕ) (c : Content) : Type 0 where
   same : data_of c ≡ parts
   held : DataIs l at next parts
 
-read_is : (l : List ℕ) (at next : ℕ) (c : Content) → Bits l → protected_body.read l at ≡ taken.Is c next → Read l at next c
+read_is : (l : List ℕ) (at next : ℕ) (c : Content) → Bits l → protected_body.read l at ≡ Ok (c, next) → Read l at next c
 read_is l at next c b e = go (data_at l at) refl e
   where
-    go : (t : DataTaken) → data_at l at ≡ t → taken_of t ≡ taken.Is c next → Read l at next c
-    go (got.Is d n) f k =
-        let z : n ≡ next = cc in
-        let y : content_of d ≡ c = cc in
-        let i = data_read l at next d b (f ∙ ap (got.Is d) z) in
+    go : (t : Reading Data) → data_at l at ≡ t → taken_of t ≡ Ok (c, next) → Read l at next c
+    go (Ok (d, n)) f k =
+        let z : n ≡ next = ok_place k in
+        let y : content_of d ≡ c = ok_value k in
+        let i = data_read l at next d b (f ∙ ap (λ (place : ℕ). Ok (d, place)) z) in
         record { parts = d; same = ap data_of (sym y) ∙ data_back l d i.placed_fits; held = i }
-    go (got.Refused r) f k = never (cc)
+    go (Err r) f k = never (cc)
 
 protected_plain : (l : List ℕ) (at next : ℕ) (d : Data) → DataIs l at next d
     → bits_n 1 0 ++ take (root_end d - (at + 1)) (drop (at + 1) l) ≡ content_bits (content_in l l l d)
@@ -128,15 +123,15 @@ protected_laws =
           (s : Stands l at (content_bits v) next).
           let d = data_written l at next v h s in
           record { content = content_of d.parts; read = rw d.read; same = rw (data_back l d.parts (data_read l at next d.parts b d.read).placed_fits) d.content };
-      read_stands = λ (l : List ℕ) (at next : ℕ) (c : Content) (b : Bits l) (e : protected_body.read l at ≡ taken.Is c next).
+      read_stands = λ (l : List ℕ) (at next : ℕ) (c : Content) (b : Bits l) (e : protected_body.read l at ≡ Ok (c, next)).
           let i = read_is l at next c b e in
           rw i.same i.held.placed_fits;
-      read_plain = λ (l : List ℕ) (at next : ℕ) (c : Content) (b : Bits l) (e : protected_body.read l at ≡ taken.Is c next).
+      read_plain = λ (l : List ℕ) (at next : ℕ) (c : Content) (b : Bits l) (e : protected_body.read l at ≡ Ok (c, next)).
           let i = read_is l at next c b e in
           subst (λ (d : Data). bits_n 1 0 ++ take (root_end d - (at + 1)) (drop (at + 1) l) ≡ content_bits
           (content_in l l l d)) (sym i.same) (protected_plain l at next i.parts i.held);
       unextended = λ (l : List ℕ) (at next : ℕ) (c : Content) (b : Bits l)
-          (e : protected_body.read l at ≡ taken.Is c next) (n : eqb (get_or l at 0) 1 ≡ false).
+          (e : protected_body.read l at ≡ Ok (c, next)) (n : eqb (get_or l at 0) 1 ≡ false).
           let i = read_is l at next c b e in
           rw i.same (data_plain l at next i.parts i.held (protected_unmarked l at next i.parts i.held n));
       clear = λ (l : List ℕ) (at next : ℕ) (c : Content). protected_clear l at next (protected_body.value (one l) c);
@@ -146,20 +141,20 @@ protected_laws =
 
 record ForwardEnds (l : List ℕ) (at next : ℕ) : Type 0 where
   value : Forward
-  is : forward_at l at ≡ forwarded.Is value next
+  is : forward_at l at ≡ Ok (value, next)
 
-forward_ends : (l : List ℕ) (at v next : ℕ) → forward_field l at ≡ Value v next → ForwardEnds l at next
+forward_ends : (l : List ℕ) (at v next : ℕ) → forward_field l at ≡ Ok (v, next) → ForwardEnds l at next
 forward_ends l at v next e = go (forward_at l at) refl e
   where
-    go : (t : Forwarded) → forward_at l at ≡ t → field_of t ≡ Value v next → ForwardEnds l at next
-    go (forwarded.Is f n) p k = let z : n ≡ next = cc in record { value = f; is = p ∙ ap (forwarded.Is f) z }
-    go (forwarded.Refused r) p k = never (cc)
+    go : (t : Reading Forward) → forward_at l at ≡ t → field_of t ≡ Ok (v, next) → ForwardEnds l at next
+    go (Ok (f, n)) p k = let z : n ≡ next = ok_place k in record { value = f; is = p ∙ ap (λ (place : ℕ). Ok (f, place)) z }
+    go (Err r) p k = never (cc)
 
 -- bits stand in themselves
 itself : (v : List ℕ) → Stands v 0 v (length v)
 itself v = record { place = omega arith; within = omega arith; holds = take-length v }
 
-module _ (l : List ℕ) (at next : ℕ) (f : Forward) (b : Bits l) (e : forward_at l at ≡ forwarded.Is f next) where
+module _ (l : List ℕ) (at next : ℕ) (f : Forward) (b : Bits l) (e : forward_at l at ≡ Ok (f, next)) where
   bs : List ℕ
   bs = forward_bits f.heading (items_in l bit f.message)
 
@@ -184,7 +179,7 @@ module _ (l : List ℕ) (at next : ℕ) (f : Forward) (b : Bits l) (e : forward_
       let n : next - at ≡ length (forward_bits f.heading (items_in l bit f.message)) = omega arith in
       record { from = omega arith; within = omega arith; itself = rw (forward_run, n) (forward_again _ 0 _ (itself (forward_bits f.heading (items_in l bit f.message)))) }
 
-whole_run : (v : List ℕ) (f : Forward) → Bits v → forward_at v 0 ≡ forwarded.Is f (length v)
+whole_run : (v : List ℕ) (f : Forward) → Bits v → forward_at v 0 ≡ Ok (f, length v)
     → v ≡ forward_bits f.heading (items_in v bit f.message)
 whole_run v f b e =
     let z : length v - 0 ≡ length v = omega arith in
@@ -199,7 +194,7 @@ forward_laws =
           (forward_right v 0 (length v) i.value b i.is) in
           let n = ap length (whole_run v i.value b i.is) in
           omega arith;
-      apart = λ (l : List ℕ) (at v next : ℕ) (b : Bits l) (e : forward_field l at ≡ Value v next).
+      apart = λ (l : List ℕ) (at v next : ℕ) (b : Bits l) (e : forward_field l at ≡ Ok (v, next)).
           let i = forward_ends l at v next e in
           forward_apart l at next i.value b i.is;
       anywhere = λ (v l : List ℕ) (at next : ℕ) (b : Bits v) (e : Ends (forward_field v 0) (length v)) (s : Stands l at v next).

@@ -1,7 +1,7 @@
 -- What the readers and writers of crate apdu answer, as the front says it.
 -- Assumes nothing.
 use mathlib.Core.Path.{◌≡◌, refl, ap, sym, ◌∙◌}
-use mathlib.Core.Bool.{Bool, true, false, cond, ◌&&◌}
+use mathlib.Core.Bool.{Bool, true, false, cond, ◌&&◌, ◌||◌}
 use mathlib.Core.List.{List, []}
 use Prim.Native.Nat.{ℕ, ◌+◌, ◌*◌, ◌^◌, ◌≤◌, ◌<◌}
 use native.Mathlib.Omega.{arith}
@@ -24,9 +24,6 @@ use Rattle.apdu.specs.declared.Data.{Data}
 use Rattle.apdu.specs.declared.Forward.{Forward}
 use Rattle.apdu.specs.declared.Apdu.{Apdu}
 use Rattle.apdu.specs.declared.Apdu.TheVariants as is
-use Rattle.apdu.specs.declared.Decoded.{Decoded as ApduDecoded}
-use Rattle.apdu.specs.declared.Decoded.TheVariants as old
-use Rattle.apdu.specs.declared.Written.TheVariants as written
 use Rattle.apdu.proofs.Bounds.{never, items_fits}
 use Rattle.apdu.proofs.Apdus.{apdu_read}
 use Rattle.pdus.specs.declared.PduType.{PduType}
@@ -36,34 +33,36 @@ use Rattle.machine.specs.UserData.{is_forward}
 use Rattle.machine.specs.declared.event.UserData.{UserData as Pdu}
 use Rattle.machine.specs.declared.event.UserData.TheVariants as pdu
 use Rattle.front.specs.declared.Found.{Found}
-use Rattle.front.specs.Body.{Lent, one}
+use Rattle.front.specs.Body.{Lent, one, given}
 use Rattle.front.specs.Runs.{no_content, run_from, run_in, takes_all}
 use Rattle.front.specs.Alternatives.{with, mode_bits as modeIs}
 use Rattle.front.specs.Editions.{body_for}
-use Rattle.front.specs.Apdus.{apdu_at as apduThere, apdu, apdu_bits, found_fits, found_in}
+use Rattle.front.specs.Apdus.{apdu_at as apduThere, apdu, apdu_bits, index_of, found_fits, found_in}
 use Rattle.front.proofs.Runs.{ends_at_is}
 use Rattle.protected.specs.Bodies.{data_of, forward_field, forward_run, type22, choice_of}
 use Rattle.protected.specs.Border.{found_of, decoded_of}
 use Rattle.protected.specs.Sending.{sends, is_reply, replies, shows}
 use Rattle.protected.proofs.Instance.{forward_laws}
 use Rattle.protected.proofs.Bridge.{apdu_same}
+use Rattle.std.specs.Prelude.{Err, Ok, Result}
+use mir.Val.{bool_byte}
 
 -- ---- reading
 
-found_by : (pdus : PduType) (s : List ℕ) (d : ApduDecoded) → apdu_at pdus (lent s) 0 ≡ d
+found_by : (pdus : PduType) (s : List ℕ) (d : Result Apdu Refusal) → apdu_at pdus (lent s) 0 ≡ d
     → found_in (decoded_of d) ≡ found_in (apduThere (choice_of pdus) (lent s) 0)
-found_by pdus s d e = ap (λ (x : ApduDecoded). found_in (decoded_of x)) (sym e) ∙ ap found_in (apdu_same pdus (lent s) (bits_to_is s all_bits))
+found_by pdus s d e = ap (λ (x : Result Apdu Refusal). found_in (decoded_of x)) (sym e) ∙ ap found_in (apdu_same pdus (lent s) (bits_to_is s all_bits))
 
-pub found_is : (pdus : PduType) (s : List ℕ) (a : Apdu) → apdu_at pdus (lent s) 0 ≡ old.Is a
+pub found_is : (pdus : PduType) (s : List ℕ) (d : Result Apdu Refusal) (b a : Apdu) → d ≡ apdu_at pdus (lent s) 0 → d ≡ Ok b → b ≡ a
     → found_of a ≡ found_in (apduThere (choice_of pdus) (lent s) 0)
-found_is pdus s a e = found_by pdus s (old.Is a) e
+found_is pdus s d b a e f g = found_by pdus s (Ok a) (sym e ∙ f ∙ ap Ok g)
 
-pub found_not : (pdus : PduType) (s : List ℕ) (r : Refusal) → apdu_at pdus (lent s) 0 ≡ old.Refused r
+pub found_not : (pdus : PduType) (s : List ℕ) (r : Refusal) → apdu_at pdus (lent s) 0 ≡ Err r
     → with pdu.NotValid no_content ≡ found_in (apduThere (choice_of pdus) (lent s) 0)
-found_not pdus s r e = found_by pdus s (old.Refused r) e
+found_not pdus s r e = found_by pdus s (Err r) e
 
 -- the end of a forward message is a place in lent bytes
-pub forward_small : (pdus : PduType) (s : List ℕ) (f : Forward) → apdu_at pdus (lent s) 0 ≡ old.Is (is.Forward f)
+pub forward_small : (pdus : PduType) (s : List ℕ) (f : Forward) → apdu_at pdus (lent s) 0 ≡ Ok (is.Forward f)
     → f.message.at + f.message.count < 2 ^ 64
 unfolding apdu_fits forward_fits
 forward_small pdus s f e =
@@ -81,21 +80,35 @@ pub shape_alike : (t a b : List ℕ) → write_out false t a ≡ write_out false
 unfolding write_out
 shape_alike t a b = refl
 
-pub start_sends : (pdus : PduType) (s : Lent) (dsc : Bool) (c : Content) (t : List ℕ) (m : ℕ) (d : Data) → m ≡ cond dsc 1 0 → d ≡ data_of c
-    → write_out (mode_fits pdus m && data_fits s.identifiers s.messages s.checks d) t
-    (pdu_bits pdus (start m (content_in s.identifiers s.messages s.checks d))) ≡ sends pdus s
-    (with (pdu.Start dsc) c) t
-unfolding sends found_fits apdu_bits pdu_bits mode_fits mode_bits modeIs
-start_sends AircraftPdus s dsc c t m d p q = rw (p, q) refl
-start_sends GroundPdus s dsc c t m d p q = rw (p, q) refl
+pub none_sends : (pdus : PduType) (s : Lent) (a : Pdu) (c : Content) (t : List ℕ) → eqb (index_of a) 4 || eqb (index_of a) 6 ≡ true
+    → done (Ok 0) t ≡ sends pdus s (with a c) t
+unfolding sends
+none_sends pdus s a c t h = rw h refl
 
-pub send_sends : (pdus : PduType) (s : Lent) (c : Content) (t : List ℕ) (d : Data) → d ≡ data_of c
-    → write_out (data_fits s.identifiers s.messages s.checks d) t
-    (pdu_bits pdus (send (content_in s.identifiers s.messages s.checks d))) ≡ sends pdus s (with pdu.Send c)
-    t
-unfolding sends found_fits apdu_bits pdu_bits
-send_sends AircraftPdus s c t d q = rw q refl
-send_sends GroundPdus s c t d q = rw q refl
+-- the content that the host gives, each part in lent bytes of its own
+module _ (pdus : PduType) (ids msgs checks : List ℕ) (c : Content) (t : List ℕ) (d : Data) (e : d ≡ data_of c) where
+  pub start_sends : (dsc : Bool) (m : ℕ) → m ≡ bool_byte dsc
+      → write_out (mode_fits pdus m && data_fits (lent ids) (lent msgs) (lent checks) d) t
+      (pdu_bits pdus (start m (content_in (lent ids) (lent msgs) (lent checks) d))) ≡ sends pdus (given ids msgs checks) (with (pdu.Start dsc) c) t
+  unfolding sends found_fits apdu_bits pdu_bits mode_fits mode_bits modeIs
+  start_sends dsc m p = rw (p, e) (of pdus dsc)
+    where
+      of : (p : PduType) (b : Bool) → write_out (mode_fits p (bool_byte b) && data_fits (lent ids) (lent msgs) (lent checks) (data_of c)) t
+          (pdu_bits p (start (bool_byte b) (content_in (lent ids) (lent msgs) (lent checks) (data_of c)))) ≡ sends p (given ids msgs checks) (with (pdu.Start b) c) t
+      of AircraftPdus true = refl
+      of AircraftPdus false = refl
+      of GroundPdus true = refl
+      of GroundPdus false = refl
+
+  pub send_sends : write_out (data_fits (lent ids) (lent msgs) (lent checks) d) t
+      (pdu_bits pdus (send (content_in (lent ids) (lent msgs) (lent checks) d))) ≡ sends pdus (given ids msgs checks) (with pdu.Send c) t
+  unfolding sends found_fits apdu_bits pdu_bits
+  send_sends = rw e (of pdus)
+    where
+      of : (p : PduType) → write_out (data_fits (lent ids) (lent msgs) (lent checks) (data_of c)) t
+          (pdu_bits p (send (content_in (lent ids) (lent msgs) (lent checks) (data_of c)))) ≡ sends p (given ids msgs checks) (with pdu.Send c) t
+      of AircraftPdus = refl
+      of GroundPdus = refl
 
 pub user_sends : (pdus : PduType) (s : Lent) (x : ℕ) (c : Content) (t : List ℕ)
     → write_out (whole_fits 0 user_last x) t (pdu_bits pdus (abort_user x)) ≡ sends pdus s (with (pdu.AbortUser x) c) t
@@ -124,6 +137,17 @@ forward_written lm f t = refl
 
 -- ---- an answer
 
+pub none_replies : (pdus : PduType) (a : Pdu) (t : List ℕ) → eqb (index_of a) 1 || eqb (index_of a) 5 ≡ false → done (Ok 0) t ≡ replies pdus a t
+unfolding replies sends
+none_replies pdus pdu.Absent t h = refl
+none_replies pdus pdu.NotValid t h = refl
+none_replies pdus (pdu.Start m) t h = refl
+none_replies pdus pdu.Send t h = refl
+none_replies pdus (pdu.AbortUser x) t h = refl
+none_replies pdus (pdu.AbortProvider x) t h = never (cc)
+none_replies pdus pdu.Forward t h = refl
+none_replies pdus (pdu.ForwardResponse x) t h = never (cc)
+
 pub provider_replies : (pdus : PduType) (x : ℕ) (t : List ℕ)
     → write_out (whole_fits 0 provider_last x) t (pdu_bits pdus (abort_provider x)) ≡ replies pdus (pdu.AbortProvider x) t
 unfolding replies
@@ -149,17 +173,23 @@ reply_sends pdus s (pdu.ForwardResponse x) t h = sym (response_sends pdus (one [
 
 -- ---- what a user is delivered
 
-pub passed_shows : (s t : List ℕ) (at n : ℕ)
-    → write_out (run_within passed_most s at n) t (run s at n) ≡ write_out (leb n passed_most && leb (at + n) (length (lent s))) t (take n (drop at (lent s)))
-unfolding run_within
-passed_shows s t at n = go (leb n passed_most) (leb (at + n) (length (lent s))) refl
+pub passed_shows : (s t : List ℕ) (x : Found) → is_forward x.pdu ≡ true
+    → write_out (run_within passed_most s x.content.message.at x.content.message.count) t (run s x.content.message.at x.content.message.count) ≡ shows (lent s) x t
+unfolding run_within shows
+passed_shows s t x h = rw h (go (leb n passed_most) (leb (at + n) (length (lent s))) refl)
   where
-    go : (p q : Bool) → leb (at + n) (length (lent s)) ≡ q
-        → write_out (p && q) t (run s at n) ≡ write_out (p && q) t (take n (drop at (lent s)))
+    at : ℕ
+    at = x.content.message.at
+
+    n : ℕ
+    n = x.content.message.count
+
+    go : (p q : Bool) → leb (x.content.message.at + x.content.message.count) (length (lent s)) ≡ q
+        → write_out (p && q) t (run s x.content.message.at x.content.message.count) ≡ write_out (p && q) t (take x.content.message.count (drop x.content.message.at (lent s)))
     go true true e =
-        let h = leb-true (at + n) (length (lent s)) e in
+        let h = leb-true (x.content.message.at + x.content.message.count) (length (lent s)) e in
         let m = length_to s all_bits in
-        rw (run_to s all_bits at n (omega arith)) refl
+        rw (run_to s all_bits x.content.message.at x.content.message.count (omega arith)) refl
     go true false e = shape_alike t _ _
     go false q e = shape_alike t _ _
 

@@ -1,45 +1,36 @@
 -- Application type 22 as an edition: its message data and its forward message as bodies, over the definitions of crate apdu.
-use Rattle.std.specs.Prelude.{ℕ, zero, suc, ◌+◌, ◌-◌, List, ◌++◌, Bool, cond, take, drop, get_or, eqb}
+use Rattle.std.specs.Prelude.{ℕ, zero, suc, ◌+◌, ◌-◌, List, ◌++◌, Bool, cond, take, drop, get_or, eqb, None, Ok, Option, Some}
 use Rattle.bits.specs.Bits.{bits_n}
-use Rattle.fields.specs.declared.Field.{Field}
-use Rattle.fields.specs.declared.Field.TheVariants as field
 use Rattle.apdu.specs.Sizes.{user_last, provider_last, message_most, bit}
 use Rattle.apdu.specs.Pdus.{Content as Protected, items_in, content_in}
 use Rattle.apdu.specs.Encoding.{content_bits, content_fits, forward_bits}
 use Rattle.apdu.specs.Reading.{data_within, forward_within}
 use Rattle.apdu.specs.Stripped.{root_end}
 use Rattle.apdu.specs.Writing.{data_fits}
-use Rattle.apdu.specs.declared.Part.{Part}
-use Rattle.apdu.specs.declared.Part.TheVariants.{Absent, Given}
 use Rattle.apdu.specs.declared.Data.{Data}
-use Rattle.apdu.specs.declared.Taken.{Taken as DataTaken}
-use Rattle.apdu.specs.declared.Taken.TheVariants as got
 use Rattle.apdu.specs.declared.Forward.{Forward}
-use Rattle.apdu.specs.declared.Forwarded.{Forwarded}
-use Rattle.apdu.specs.declared.Forwarded.TheVariants as forwarded
 use Rattle.pdus.specs.declared.Span.{Span}
 use Rattle.pdus.specs.declared.Content.{Content}
-use Rattle.front.specs.declared.Taken.{Taken}
-use Rattle.front.specs.declared.Taken.TheVariants as taken
 use Rattle.pdus.specs.declared.PduType.{PduType}
 use Rattle.pdus.specs.declared.PduType.TheVariants as pdus
 use Rattle.front.specs.Body.{Lent, Body, Choice}
 use Rattle.front.specs.Runs.{none, run_body}
 use Rattle.front.specs.Editions.{Edition, aircraft_pdus, ground_pdus}
+use Rattle.fields.specs.Fields.{Reading, then}
 
 -- ---- places, as crate apdu says them: a part that is absent is a count that no part has
 
-abbrev pub identifier_span : Part → Span
-identifier_span Absent = record { at = 0; count = 0 }
-identifier_span (Given x) = x
+abbrev pub identifier_span : Option Span → Span
+identifier_span None = record { at = 0; count = 0 }
+identifier_span (Some x) = x
 
-abbrev pub message_span : Part → Span
-message_span Absent = record { at = 0; count = none }
-message_span (Given x) = x
+abbrev pub message_span : Option Span → Span
+message_span None = record { at = 0; count = none }
+message_span (Some x) = x
 
 -- items of so many are none
-abbrev pub part_of : ℕ → Span → Part
-part_of empty x = cond (eqb x.count empty) Absent (Given x)
+abbrev pub part_of : ℕ → Span → Option Span
+part_of empty x = cond (eqb x.count empty) None (Some x)
 
 abbrev pub content_of : Data → Content
 content_of d = record { identifier = identifier_span d.identifier; message = message_span d.message; check = d.check }
@@ -47,9 +38,8 @@ content_of d = record { identifier = identifier_span d.identifier; message = mes
 abbrev pub data_of : Content → Data
 data_of c = record { identifier = part_of 0 c.identifier; message = part_of none c.message; check = c.check }
 
-abbrev pub taken_of : DataTaken → Taken
-taken_of (got.Is d next) = taken.Is (content_of d) next
-taken_of (got.Refused r) = taken.Refused r
+abbrev pub taken_of : Reading Data → Reading Content
+taken_of f = then f (λ (d : Data) (next : ℕ). Ok (content_of d, next))
 
 -- ---- the bodies
 
@@ -72,14 +62,13 @@ abbrev pub protected_body : Body
 protected_body = protected_within message_most
 
 -- a forward message: its bits as they are
-abbrev pub field_of : Forwarded → Field
-field_of (forwarded.Is f next) = field.Value 0 next
-field_of (forwarded.Refused r) = field.Refused r
+abbrev pub field_of : Reading Forward → Reading ℕ
+field_of t = then t (λ (f : Forward) (next : ℕ). Ok (0, next))
 
-abbrev pub forward_field_within : ℕ → List ℕ → ℕ → Field
+abbrev pub forward_field_within : ℕ → List ℕ → ℕ → Reading ℕ
 forward_field_within limit l at = field_of (forward_within limit l at)
 
-abbrev pub forward_field : List ℕ → ℕ → Field
+abbrev pub forward_field : List ℕ → ℕ → Reading ℕ
 forward_field = forward_field_within message_most
 
 -- a forward message that the host gives, with the bits that it is

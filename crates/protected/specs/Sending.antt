@@ -1,7 +1,6 @@
 -- What a buffer takes: an APDU with its content, or what a user is delivered of one.
-use Rattle.std.specs.Prelude.{ℕ, ◌+◌, Bool, true, false, cond, ◌&&◌, ◌||◌, List, [], leb, eqb, length}
+use Rattle.std.specs.Prelude.{ℕ, ◌+◌, Bool, true, false, cond, ◌&&◌, ◌||◌, List, [], leb, eqb, length, Ok}
 use Rattle.apdu.specs.Writing.{passed_most}
-use Rattle.apdu.specs.declared.Written.TheVariants as written
 use Rattle.pdus.specs.declared.PduType.{PduType}
 use Rattle.machine.specs.UserData.{is_forward}
 use Rattle.machine.specs.declared.event.UserData.{UserData as Pdu}
@@ -17,7 +16,7 @@ use Rattle.protected.specs.Bodies.{protected_body, choice_of}
 -- An APDU whose content stands in the bits s. Where there is none, nothing; nor of a forward, which is written of its heading.
 unfoldable pub sends : PduType → Lent → Found → List ℕ → Done
 sends pdus s x t =
-    cond (eqb (index_of x.pdu) 4 || eqb (index_of x.pdu) 6) (done (written.Bits 0) t)
+    cond (eqb (index_of x.pdu) 4 || eqb (index_of x.pdu) 6) (done (Ok 0) t)
     (write_out (found_fits (choice_of pdus) s x) t (apdu_bits (choice_of pdus) (apdu_in (choice_of pdus) s x)))
 
 -- what answers a primitive of the dialogue service: an abort by the provider, a forward's response, or nothing
@@ -32,7 +31,7 @@ is_reply pdu.Forward = false
 is_reply (pdu.ForwardResponse x) = true
 
 unfoldable pub replies : PduType → Pdu → List ℕ → Done
-replies pdus a t = cond (is_reply a) (sends pdus (one []) (with a no_content) t) (done (written.Bits 0) t)
+replies pdus a t = cond (is_reply a) (sends pdus (one []) (with a no_content) t) (done (Ok 0) t)
 
 -- What a user is delivered of what was found in the bits l: a forward message as its bits stand, message data encoded anew.
 unfoldable pub shows : List ℕ → Found → List ℕ → Done

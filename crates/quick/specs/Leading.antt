@@ -5,7 +5,7 @@
 --    8 bits  0
 --    8 bits  the alternative, by its tag
 --    8 bits  the mode of a start, else 0
-use Rattle.std.specs.Prelude.{ℕ, ◌+◌, ◌*◌, cond, List, [], ◌∷◌, eqb}
+use Rattle.std.specs.Prelude.{ℕ, ◌+◌, ◌*◌, cond, List, [], ◌∷◌, eqb, Err, Ok}
 use Rattle.words.specs.Limits.{shape}
 use Rattle.bits.specs.Bits.{bits_of}
 use Rattle.fields.specs.Refusals.{packed}
@@ -13,12 +13,12 @@ use Rattle.apdu.specs.Pdus.{index_of, lent}
 use Rattle.apdu.specs.Reading.{leading_at}
 use Rattle.pdus.specs.declared.PduType.{PduType}
 use Rattle.pdus.specs.declared.PduType.TheVariants.{AircraftPdus, GroundPdus}
-use Rattle.apdu.specs.declared.Lead.{Lead}
-use Rattle.apdu.specs.declared.Lead.TheVariants as lead
+use Rattle.fields.specs.Fields.{Reading}
+use Rattle.apdu.specs.declared.Kind.{Kind}
 
-unfoldable pub lead_number : Lead → ℕ
-lead_number (lead.Is k m next) = 256 * (index_of k + 256 * m)
-lead_number (lead.Refused r) = packed r
+unfoldable pub lead_number : Reading (Kind × ℕ) → ℕ
+lead_number (Ok ((k, m), next)) = 256 * (index_of k + 256 * m)
+lead_number (Err r) = packed r
 
 -- what a first byte says by itself
 unfoldable pub byte_lead : PduType → ℕ → ℕ

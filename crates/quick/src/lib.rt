@@ -13,7 +13,8 @@ const AIRCRAFT: u64 = 1;
 const GROUND: u64 = 2;
 
 // What is answered, as `peat_read_apdu` has it: the alternative in the second byte and the mode of a start in the third; or the refusal in the
-// first byte, and its place above.
+// first byte, and its place above. Numbers and no enum: the answer is the number, and where an enum's value is cast to it each row would be proved for
+// each number.
 const ABORT_USER: u64 = 0x0_0000;
 
 const ABORT_PROVIDER: u64 = 0x0_0100;
@@ -68,20 +69,14 @@ fn of_ground(first: u8) -> u64
 }
 
 // The leading fields of the APDU that lent bytes are, read as the type that a number names. What follows the first byte is not looked at.
+#[tactic(auto, using(crate::proofs::Bytes::first_says, crate::proofs::Bytes::nothing_says), unfolding(crate::specs::Leading::leading_call))]
 pub fn leading(which: u64, s: &[u8]) -> u64
     ensures { result ≡ leading_call which s.now }
 {
-    if which == AIRCRAFT {
-        if s.len() == 0 {
-            return NO_BIT;
-        }
-        return of_aircraft(s[0]);
+    match (which, s) {
+        (AIRCRAFT, [first, ..]) => of_aircraft(*first),
+        (GROUND, [first, ..]) => of_ground(*first),
+        (AIRCRAFT | GROUND, _) => NO_BIT,
+        _ => Limit::SHAPE,
     }
-    if which == GROUND {
-        if s.len() == 0 {
-            return NO_BIT;
-        }
-        return of_ground(s[0]);
-    }
-    Limit::SHAPE
 }

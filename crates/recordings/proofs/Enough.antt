@@ -13,8 +13,6 @@ use Rattle.envelope.specs.Envelopes.{envelope_at, content_of, bytes_of}
 use Rattle.envelope.specs.Numbers.{groups, number}
 use Rattle.envelope.specs.Strings.{Walk, on_read, walk_from_of, walk}
 use Rattle.envelope.specs.declared.Envelope.{Envelope}
-use Rattle.envelope.specs.declared.EnvelopeRead.{EnvelopeRead}
-use Rattle.envelope.specs.declared.EnvelopeRead.TheVariants.{Is, Refused}
 use Rattle.envelope.proofs.Numbers.{AllBytes, groups_more}
 use Rattle.envelope.proofs.Puts.{groups_pos}
 use Rattle.envelope.proofs.RoundTrip.{read_written, length_header, length_whole}
@@ -27,6 +25,8 @@ use Rattle.recordings.specs.declared.Counts.{Counts}
 use Rattle.recordings.proofs.Members.{Alike, alike, apart, alike?, times_nil, times_same, times_other, keep_nil, keep_in, keep_out, rising_keep, above_keep, and_left}
 use Rattle.recordings.proofs.Following.{rising_rises}
 use Rattle.recordings.proofs.Counting.{jobs_above, both_above}
+use Rattle.std.specs.Prelude.{Err, Ok, Result}
+use Rattle.envelope.specs.declared.EnvelopeRefusal.{EnvelopeRefusal}
 
 -- ---- the least bytes of envelopes of some jobs
 
@@ -174,11 +174,11 @@ envelope_many s e h = omega (
   number_pos e.bits,
 )
 
-read_bytes : (limit : ℕ) (s : List ℕ) → AllBytes s → (at : ℕ) (z : EnvelopeRead) (k : Envelope → Walk)
+read_bytes : (limit : ℕ) (s : List ℕ) → AllBytes s → (at : ℕ) (z : Result Envelope EnvelopeRefusal) (k : Envelope → Walk)
     → envelope_at limit s at ≡ z
     → ((e : Envelope) → bytes (map (λ (x : Envelope). x.job) (k e).envelopes) ≤ length s - e.next)
     → bytes (map (λ (x : Envelope). x.job) (on_read z at k).envelopes) ≤ length s - at
-read_bytes limit s b at (Is e) k p h = by (size e.job) (goes_on limit s at e (read_written limit s at b e p)) (h e)
+read_bytes limit s b at (Ok e) k p h = by (size e.job) (goes_on limit s at e (read_written limit s at b e p)) (h e)
   where
     by : Size e.job → Onward s at e → bytes (map (λ (x : Envelope). x.job) (k e).envelopes) ≤ length s - e.next
         → bytes (e.job ∷ map (λ (x : Envelope). x.job) (k e).envelopes) ≤ length s - at
@@ -191,7 +191,7 @@ read_bytes limit s b at (Is e) k p h = by (size e.job) (goes_on limit s at e (re
       o.within,
       i,
     )
-read_bytes limit s b at (Refused r) k p h = rw bytes_nil (omega arith)
+read_bytes limit s b at (Err r) k p h = rw bytes_nil (omega arith)
 
 walk_bytes : (limit : ℕ) (s : List ℕ) → AllBytes s → (f at : ℕ)
     → bytes (map (λ (x : Envelope). x.job) (walk_from_of limit s f at).envelopes) ≤ length s - at

@@ -13,13 +13,12 @@ use Rattle.envelope.specs.declared.EnvelopeRefusal.{EnvelopeRefusal}
 use Rattle.envelope.specs.declared.EnvelopeRefusal.TheVariants.{Cut, Groups, Kind, Size}
 use Rattle.recordings.specs.Jobs.{only_first, only_second, repeated}
 use Rattle.recordings.specs.Recordings.{most_bytes, jobs, chosen, searched, difference, rest_by, rest_in, rest_of, handed_back}
+use Rattle.recordings.proofs.Findings.{Searched}
 use Rattle.recordings.specs.Showing.{shown, refused_with, longer, rest_at, reported, lacks, showing, searched_by, compared}
-use Rattle.recordings.specs.declared.Searched.{Searched}
-use Rattle.recordings.specs.declared.Searched.TheVariants.{Whole, Stopped}
 use Rattle.recordings.specs.declared.Difference.{Difference}
-use Rattle.recordings.specs.declared.Difference.TheVariants.{Nowhere, At}
 use Rattle.recordings.specs.declared.Compared.{Compared}
 use Rattle.recordings.specs.declared.Counts.{Counts}
+use Rattle.std.specs.Prelude.{Err, None, Ok, Option, Some}
 
 -- the part of the lent bytes that an answer names
 abbrev pub part_of : Compared → List ℕ → List ℕ → List ℕ
@@ -31,10 +30,10 @@ a_number Groups e = absurd (omega arith)
 a_number Kind e = absurd (omega arith)
 a_number Size e = absurd (omega arith)
 
-named : (a b : List ℕ) (d : Difference) (c : Counts) → rest_by d a b ≡ part_of (reported (length a) (length b) d c) a b
+named : (a b : List ℕ) (d : Option Difference) (c : Counts) → rest_by d a b ≡ part_of (reported (length a) (length b) d c) a b
 unfolding reported longer rest_at chosen
-named a b (At i at f) c = refl
-named a b Nowhere c = by (ltb (length a) (length b)) (ltb (length b) (length a)) refl refl
+named a b (Some d) c = refl
+named a b None c = by (ltb (length a) (length b)) (ltb (length b) (length a)) refl refl
   where
     by : (p q : Bool) → ltb (length a) (length b) ≡ p → ltb (length b) (length a) ≡ q
         → cond p (drop (length a) b) (drop (length b) a) ≡ cond (eqb (cond p 2 (cond q 1 0)) 0) [] (drop (cond p (length a) (cond q (length b) 0)) (cond (eqb (cond p 2 (cond q 1 0)) 1) a b))
@@ -57,8 +56,8 @@ rest_named limit a b x y z e = by (ltb most_bytes (length a)) (ltb most_bytes (l
 
     on : (s : Searched) → (searched_by limit a b x y z s).answer.refusal ≡ 0
         → rest_in s (difference limit a b) a b ≡ part_of (searched_by limit a b x y z s).answer a b
-    on (Stopped r recording at) g = absurd (a_number r g)
-    on Whole g = fits (lacks (only_first (jobs limit a) (jobs limit b)) x)
+    on (Err s) g = absurd (a_number s.refusal g)
+    on (Ok u) g = fits (lacks (only_first (jobs limit a) (jobs limit b)) x)
         (lacks (only_second (jobs limit a) (jobs limit b)) y) (lacks (repeated (jobs limit a) (jobs limit b)) z) _ _ _ _
         g
 

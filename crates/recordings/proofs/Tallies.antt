@@ -13,8 +13,6 @@ use Rattle.envelope.specs.Envelopes.{envelope_at}
 use Rattle.envelope.specs.Strings.{Walk}
 use Rattle.envelope.specs.declared.EnvelopeRefusal.{EnvelopeRefusal}
 use Rattle.envelope.specs.declared.Envelope.{Envelope}
-use Rattle.envelope.specs.declared.EnvelopeRead.{EnvelopeRead}
-use Rattle.envelope.specs.declared.EnvelopeRead.TheVariants.{Is, Refused}
 use Rattle.envelope.proofs.Numbers.{AllBytes}
 use Rattle.recordings.specs.Jobs.{times}
 use Rattle.recordings.specs.Blocks.{Above, more, Rising, next, Block, below, bump, tallied, tallied_all}
@@ -23,6 +21,7 @@ use Rattle.recordings.proofs.Walks.{from_end, from_read, from_refused}
 use Rattle.recordings.proofs.Rising.{Order, less, same, above, order, below_none, below_more, above_lower}
 use Rattle.recordings.proofs.Placing.{full_last, full_none}
 use Rattle.recordings.proofs.Gathers.{jobs_from, jobs_start}
+use Rattle.std.specs.Prelude.{Err, Ok, Result}
 
 -- ---- the clauses
 
@@ -157,8 +156,8 @@ all_cons x xs l ts = refl
 pub tally_start : (limit : ℕ) (s l ts : List ℕ) → tallied_all (jobs_from limit s 0) l ts ≡ tallied_all (jobs limit s) l ts
 tally_start limit s l ts = ap (λ (js : List ℕ). tallied_all js l ts) (jobs_start limit s)
 
-pub tally_more : (limit : ℕ) (s : List ℕ) (at : ℕ) (x : EnvelopeRead) (e : Envelope) (l ts us z : List ℕ) → AllBytes s
-    → at < length s → x ≡ envelope_at limit s at → x ≡ Is e → us ≡ tallied e.job l ts
+pub tally_more : (limit : ℕ) (s : List ℕ) (at : ℕ) (x : Result Envelope EnvelopeRefusal) (e : Envelope) (l ts us z : List ℕ) → AllBytes s
+    → at < length s → x ≡ envelope_at limit s at → x ≡ Ok e → us ≡ tallied e.job l ts
     → tallied_all (jobs_from limit s at) l ts ≡ z → tallied_all (jobs_from limit s e.next) l us ≡ z
 tally_more limit s at x e l ts us z b h p q i g =
     let w : jobs_from limit s at ≡ e.job ∷ jobs_from limit s e.next = ap
@@ -170,8 +169,8 @@ tally_out limit s at l ts z h g =
     let w : jobs_from limit s at ≡ [] = ap (λ (w : Walk). map (λ (e : Envelope). e.job) w.envelopes) (from_end limit s at h) in
     sym (all_nil l ts) ∙ (rw w at g)
 
-pub tally_stop : (limit : ℕ) (s : List ℕ) (at : ℕ) (x : EnvelopeRead) (r : EnvelopeRefusal) (l ts z : List ℕ)
-    → at < length s → x ≡ envelope_at limit s at → x ≡ Refused r → tallied_all (jobs_from limit s at) l ts ≡ z → ts ≡ z
+pub tally_stop : (limit : ℕ) (s : List ℕ) (at : ℕ) (x : Result Envelope EnvelopeRefusal) (r : EnvelopeRefusal) (l ts z : List ℕ)
+    → at < length s → x ≡ envelope_at limit s at → x ≡ Err r → tallied_all (jobs_from limit s at) l ts ≡ z → ts ≡ z
 tally_stop limit s at x r l ts z h p q g =
     let w : jobs_from limit s at ≡ [] = ap (λ (w : Walk). map (λ (e : Envelope). e.job) w.envelopes)
     (from_refused limit s at x r h p q) in

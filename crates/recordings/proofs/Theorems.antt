@@ -17,19 +17,18 @@ use Rattle.envelope.proofs.Both.{contents_back}
 use Rattle.envelope.proofs.Strings.{every_string}
 use Rattle.recordings.specs.Jobs.{times, only, only_first, only_second, rising}
 use Rattle.recordings.specs.Recordings.{contents, stop_in, searched, field_of, differ, difference, rest_by, rest_in, rest_of}
-use Rattle.recordings.specs.declared.Searched.{Searched}
-use Rattle.recordings.specs.declared.Searched.TheVariants.{Whole, Stopped}
-use Rattle.recordings.specs.declared.Difference.TheVariants.{Nowhere, At}
+use Rattle.recordings.proofs.Findings.{Searched, stop, found}
 use Rattle.recordings.proofs.Differences.{never, field_none, field_refl, differ_none, differ_on, differ_here}
 use Rattle.recordings.proofs.Members.{Alike, alike, apart, alike?, keep_none}
+use Rattle.std.specs.Prelude.{Err, None, Ok, Some}
 
 -- ---- equal ones give nothing
 
-differ_same : (i at : ℕ) (xs : List Content) → differ i at xs xs ≡ Nowhere
+differ_same : (i at : ℕ) (xs : List Content) → differ i at xs xs ≡ None
 differ_same i at [] = differ_none i at []
 differ_same i at (x ∷ xs) = differ_on i at x x xs xs (field_refl x) ∙ differ_same (i + 1) (at + length (bytes_of x)) xs
 
-pub equal_same : (limit : ℕ) (a : List ℕ) → difference limit a a ≡ Nowhere
+pub equal_same : (limit : ℕ) (a : List ℕ) → difference limit a a ≡ None
 unfolding difference
 equal_same limit a = differ_same 0 0 (contents limit a)
 
@@ -50,8 +49,8 @@ unfolding rest_of
 equal_rest limit a = by (searched limit a a)
   where
     by : (s : Searched) → rest_in s (difference limit a a) a a ≡ []
-    by Whole = rw (equal_same limit a, le-ltb (length a) (length a) (omega arith)) (drop-length a)
-    by (Stopped r recording at) = refl
+    by (Ok u) = rw (equal_same limit a, le-ltb (length a) (length a) (omega arith)) (drop-length a)
+    by (Err s) = refl
 
 -- ---- and only they
 
@@ -66,17 +65,17 @@ told_reads : (limit : ℕ) (a : List ℕ) (w : Walk) → Told limit a 0 w → wa
 told_reads limit a w (whole cs fits e) g n = record { says = cs; bytes = e; read = ap (λ (v : Walk). contents_of a v.envelopes) g ∙ contents_back limit cs fits a 0 e }
 told_reads limit a w (broken cs t r fits e h q) g n = absurd (n r (0 + length (string_of cs)) refl)
 
-first_ends : (limit : ℕ) (a b : List ℕ) → searched limit a b ≡ Whole → (r : EnvelopeRefusal) (k : ℕ)
+first_ends : (limit : ℕ) (a b : List ℕ) → searched limit a b ≡ Ok tt → (r : EnvelopeRefusal) (k : ℕ)
     → (walk limit a).ending ≡ stopped r k → ⊥
 unfolding searched
-first_ends limit a b e r k g = let w : Stopped r 1 k ≡ Whole = rw g at e in never (cc)
+first_ends limit a b e r k g = let w : ◌≡◌ {A = Searched} (Err (stop r 1 k)) (Ok tt) = rw g at e in never (cc)
 
-second_ends : (limit : ℕ) (a b : List ℕ) → searched limit a b ≡ Whole → (r : EnvelopeRefusal) (k : ℕ)
+second_ends : (limit : ℕ) (a b : List ℕ) → searched limit a b ≡ Ok tt → (r : EnvelopeRefusal) (k : ℕ)
     → (walk limit b).ending ≡ stopped r k → ⊥
 unfolding searched
 second_ends limit a b e r k g = by (walk limit a).ending (rw g at e)
   where
-    by : (x : Ending) → stop_in 1 x (Stopped r 2 k) ≡ Whole → ⊥
+    by : (x : Ending) → stop_in 1 x (Err (stop r 2 k)) ≡ Ok tt → ⊥
     by (ended n) h = never (cc)
     by (stopped f n) h = never (cc)
 
@@ -85,20 +84,20 @@ data Begins (xs ys : List Content) : Type 0 where
   longer : (t : List Content) → xs ≡ ys ++ t → Begins xs ys
   shorter : (t : List Content) → ys ≡ xs ++ t → Begins xs ys
 
-begins : (i at : ℕ) (xs ys : List Content) → differ i at xs ys ≡ Nowhere → Begins xs ys
+begins : (i at : ℕ) (xs ys : List Content) → differ i at xs ys ≡ None → Begins xs ys
 begins i at [] ys e = shorter ys refl
 begins i at (x ∷ xs) [] e = longer (x ∷ xs) refl
 begins i at (x ∷ xs) (y ∷ ys) e = by (alike? (field_of x y) 0) (λ
-    (g : differ (i + 1) (at + length (bytes_of x)) xs ys ≡ Nowhere). begins (i + 1) (at + length (bytes_of x)) xs ys
+    (g : differ (i + 1) (at + length (bytes_of x)) xs ys ≡ None). begins (i + 1) (at + length (bytes_of x)) xs ys
     g)
   where
     on : x ≡ y → Begins xs ys → Begins (x ∷ xs) (y ∷ ys)
     on p (longer t q) = longer t (rw (p, q))
     on p (shorter t q) = shorter t (rw (p, q))
 
-    by : Alike (field_of x y) 0 → (differ (i + 1) (at + length (bytes_of x)) xs ys ≡ Nowhere → Begins xs ys) → Begins (x ∷ xs) (y ∷ ys)
+    by : Alike (field_of x y) 0 → (differ (i + 1) (at + length (bytes_of x)) xs ys ≡ None → Begins xs ys) → Begins (x ∷ xs) (y ∷ ys)
     by (alike g) k = on (field_none x y g) (k (sym (differ_on i at x y xs ys g) ∙ e))
-    by (apart n) k = let w : At i at (field_of x y) ≡ Nowhere = sym (differ_here i at x y xs ys n) ∙ e in never (cc)
+    by (apart n) k = let w : Some (found i at (field_of x y)) ≡ None = sym (differ_here i at x y xs ys n) ∙ e in never (cc)
 
 string_append : (xs ys : List Content) → string_of (xs ++ ys) ≡ string_of xs ++ string_of ys
 unfolding string_of
@@ -110,7 +109,7 @@ no_bytes [] e = refl
 no_bytes (x ∷ xs) e = absurd (omega arith)
 
 -- no rest: both are as long
-same_length : (a b : List ℕ) → rest_by Nowhere a b ≡ [] → length a ≡ length b
+same_length : (a b : List ℕ) → rest_by None a b ≡ [] → length a ≡ length b
 same_length a b e = by (ltb (length a) (length b)) refl e
   where
     by : (t : Bool) → ltb (length a) (length b) ≡ t → cond t (drop (length a) b) (drop (length b) a) ≡ [] → length a ≡ length b
@@ -129,8 +128,8 @@ joined a b u e l =
     let z : u ≡ [] = no_bytes u (omega arith) in
     sym (append-nil a) ∙ (ap (λ (v : List ℕ). a ++ v) (sym z) ∙ sym e)
 
-pub only_equal : (limit : ℕ) (a b : List ℕ) → AllBytes a → AllBytes b → searched limit a b ≡ Whole
-    → difference limit a b ≡ Nowhere → rest_of limit a b ≡ [] → a ≡ b
+pub only_equal : (limit : ℕ) (a b : List ℕ) → AllBytes a → AllBytes b → searched limit a b ≡ Ok tt
+    → difference limit a b ≡ None → rest_of limit a b ≡ [] → a ≡ b
 unfolding rest_of difference
 only_equal limit a b p q s d r =
     let x = told_reads limit a (walk limit a) (every_string limit a p) refl (first_ends limit a b s) in

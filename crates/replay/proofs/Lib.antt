@@ -1,4 +1,4 @@
 pub mod Loops
-pub mod Calls
 pub mod Found
 pub mod Said
+pub mod Breaks

@@ -8,32 +8,7 @@ use native.Mathlib.Omega.{arith}
 use borrow.Author.Tests.{le-leb, lt-leb}
 use lib.Dec.{eqb, leb}
 use lib.ListN.{length, get_or, set}
-use Rattle.control.specs.declared.State.TheVariants.{Forward}
-use Rattle.control.specs.declared.Primitive.TheVariants.{DAbort}
-use Rattle.tables.specs.Steps.{primitive_of}
-use Rattle.tables.specs.Tables.{Leaves, left, state_of, and_then, noted, tell_on, told, entry_in, counted_if, settled, stays_of, is_of, trim_on, trimmed, is_start_of, start_on, start_in, drawn, draw_on, removed, mark_broken, mark_on, marked_line}
-
--- ---- codes
-
-pub other_state : (x : ℕ) → (x ≡ 0 → ⊥) → (x ≡ 1 → ⊥) → (x ≡ 2 → ⊥) → (x ≡ 3 → ⊥) → (x ≡ 4 → ⊥) → Forward ≡ state_of x
-other_state zero a b c d e = absurd (a refl)
-other_state (suc zero) a b c d e = absurd (b refl)
-other_state (suc (suc zero)) a b c d e = absurd (c refl)
-other_state (suc (suc (suc zero))) a b c d e = absurd (d refl)
-other_state (suc (suc (suc (suc zero)))) a b c d e = absurd (e refl)
-other_state (suc (suc (suc (suc (suc n))))) a b c d e = refl
-
-pub other_primitive : (x : ℕ) → (x ≡ 0 → ⊥) → (x ≡ 1 → ⊥) → (x ≡ 2 → ⊥) → (x ≡ 3 → ⊥) → (x ≡ 4 → ⊥) → (x ≡ 5 → ⊥)
-    → (x ≡ 6 → ⊥) → (x ≡ 7 → ⊥) → DAbort ≡ primitive_of x
-other_primitive zero a b c d e f g h = absurd (a refl)
-other_primitive (suc zero) a b c d e f g h = absurd (b refl)
-other_primitive (suc (suc zero)) a b c d e f g h = absurd (c refl)
-other_primitive (suc (suc (suc zero))) a b c d e f g h = absurd (d refl)
-other_primitive (suc (suc (suc (suc zero)))) a b c d e f g h = absurd (e refl)
-other_primitive (suc (suc (suc (suc (suc zero))))) a b c d e f g h = absurd (f refl)
-other_primitive (suc (suc (suc (suc (suc (suc zero)))))) a b c d e f g h = absurd (g refl)
-other_primitive (suc (suc (suc (suc (suc (suc (suc zero))))))) a b c d e f g h = absurd (h refl)
-other_primitive (suc (suc (suc (suc (suc (suc (suc (suc n)))))))) a b c d e f g h = refl
+use Rattle.tables.specs.Tables.{Leaves, left, and_then, noted, tell_on, told, entry_in, counted_if, settled, stays_of, is_of, trim_on, trimmed, is_start_of, start_on, start_in, drawn, draw_on, removed, mark_broken, mark_on, marked_line}
 
 -- ---- every open job gets its fate
 

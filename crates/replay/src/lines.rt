@@ -12,108 +12,34 @@ pub struct Line {
     pub d: u64,
 }
 
-fn byte(s: &[u8], i: usize) -> u8 {
-    if i < s.len() {
-        return s[i];
-    }
-    0
-}
-
-fn sum(a: usize, b: usize) -> usize {
-    if 4294967296 < a {
-        return a;
-    }
-    if 4294967296 < b {
-        return a;
-    }
-    a + b
-}
-
 // The bytes from a place to another are this word.
 fn same(s: &[u8], from: usize, to: usize, word: &[u8]) -> bool {
-    if to < from {
-        return false;
-    }
-    if to - from != word.len() {
-        return false;
-    }
-    let mut i: usize = 0;
-    while i < word.len() {
-        if byte(s, sum(from, i)) != byte(word, i) {
-            return false;
-        }
-        i += 1;
-    }
-    true
+    from <= to && to <= s.len() && &s[from..to] == word
 }
 
 // The place of the next space, or the end.
 fn space(s: &[u8], from: usize) -> usize {
-    let mut i = from;
-    while i < s.len() {
+    for i in from..s.len() {
         if s[i] == b' ' {
             return i;
         }
-        i += 1;
     }
-    i
+    s.len()
 }
 
-// What is told of a number: it, or that it is none.
-#[derive(Drop)]
-enum Digits {
-    Is(u64),
-    Not,
-}
-
-fn wide(x: u8) -> u64 {
-    x as u64
-}
-
-// 10 where it is no digit
-fn digit(x: u8) -> u64 {
-    let v = wide(x);
-    if v < 48 {
-        return 10;
-    }
-    if 57 < v {
-        return 10;
-    }
-    v - 48
-}
-
-// A digit more; a number has eight bytes.
-fn longer(n: u64, d: u64) -> Digits {
-    if 9 < d {
-        return Digits::Not;
-    }
-    if 1844674407370955160 < n {
-        if n == 1844674407370955161 {
-            if d < 6 {
-                return Digits::Is(18446744073709551610 + d);
-            }
-        }
-        return Digits::Not;
-    }
-    Digits::Is(10 * n + d)
-}
-
-// The digits from a place to another.
-fn number(s: &[u8], from: usize, to: usize) -> Digits {
-    if to <= from {
-        return Digits::Not;
+// The digits from a place to another; none where there is none, where one is no digit, or where the number has more than eight bytes.
+fn number(s: &[u8], from: usize, to: usize) -> Option<u64> {
+    if to <= from || s.len() < to {
+        return None;
     }
     let mut n: u64 = 0;
-    let mut i = from;
-    while i < to {
-        let one = longer(n, digit(byte(s, i)));
-        let Digits::Is(m) = one else {
-            return Digits::Not;
-        };
-        n = m;
-        i += 1;
+    for &x in &s[from..to] {
+        if !x.is_ascii_digit() {
+            return None;
+        }
+        n = n.checked_mul(10)?.checked_add(u64::from(x - b'0'))?;
     }
-    Digits::Is(n)
+    Some(n)
 }
 
 fn word(s: &[u8], from: usize, to: usize) -> u64 {
@@ -287,108 +213,56 @@ fn word_of_centres(s: &[u8], from: usize, to: usize) -> u64 {
     0
 }
 
-fn unread() -> Line {
-    Line {
-        air: true,
-        word: 0,
-        count: 0,
-        a: 0,
-        b: 0,
-        c: 0,
-        d: 0,
-    }
-}
+const UNREAD: Line = Line {
+    air: true,
+    word: 0,
+    count: 0,
+    a: 0,
+    b: 0,
+    c: 0,
+    d: 0,
+};
 
 // A line with one number more.
 fn with(l: Line, n: u64) -> Line {
-    let count = l.count;
-    match count {
+    match l.count {
         0 => Line {
-            air: l.air,
-            word: l.word,
             count: 1,
             a: n,
-            b: 0,
-            c: 0,
-            d: 0,
+            ..l
         },
         1 => Line {
-            air: l.air,
-            word: l.word,
             count: 2,
-            a: l.a,
             b: n,
-            c: 0,
-            d: 0,
+            ..l
         },
         2 => Line {
-            air: l.air,
-            word: l.word,
             count: 3,
-            a: l.a,
-            b: l.b,
             c: n,
-            d: 0,
+            ..l
         },
         3 => Line {
-            air: l.air,
-            word: l.word,
             count: 4,
-            a: l.a,
-            b: l.b,
-            c: l.c,
             d: n,
+            ..l
         },
-        _ => unread(),
+        _ => UNREAD,
     }
 }
 
 // How many numbers a word needs.
 fn needed(word: u64) -> u64 {
     match word {
-        1 => 4,
-        2 => 1,
-        3 => 1,
-        4 => 1,
-        5 => 2,
-        6 => 2,
-        7 => 2,
-        8 => 1,
-        9 => 1,
-        15 => 1,
-        16 => 1,
-        17 => 1,
-        26 => 4,
-        30 => 2,
-        32 => 2,
-        33 => 2,
-        34 => 3,
-        35 => 2,
-        36 => 2,
-        37 => 2,
-        38 => 2,
-        39 => 2,
-        40 => 1,
-        41 => 1,
-        42 => 1,
-        43 => 1,
-        44 => 1,
-        45 => 1,
-        46 => 1,
-        50 => 3,
-        51 => 2,
-        52 => 2,
-        53 => 1,
-        54 => 3,
+        2 | 3 | 4 | 8 | 9 | 15 | 16 | 17 | 40 | 41 | 42 | 43 | 44 | 45 | 46 | 53 => 1,
+        5 | 6 | 7 | 30 | 32 | 33 | 35 | 36 | 37 | 38 | 39 | 51 | 52 => 2,
+        34 | 50 | 54 => 3,
+        1 | 26 => 4,
         _ => 0,
     }
 }
 
 fn finished(l: Line) -> Line {
-    if l.count == needed(l.word) {
-        return l;
-    }
-    unread()
+    if l.count == needed(l.word) { l } else { UNREAD }
 }
 
 // The numbers behind the word, from a place on.
@@ -397,16 +271,15 @@ fn numbers(s: &[u8], from: usize, l: Line) -> Line {
     let mut at = from;
     while at < s.len() {
         if s[at] != b' ' {
-            return unread();
+            return UNREAD;
         }
         let begin = at + 1;
         let end = space(s, begin);
-        let one = number(s, begin, end);
-        let Digits::Is(n) = one else {
-            return unread();
+        let Some(n) = number(s, begin, end) else {
+            return UNREAD;
         };
         if end <= at {
-            return unread();
+            return UNREAD;
         }
         line = with(line, n);
         at = end;
@@ -416,13 +289,13 @@ fn numbers(s: &[u8], from: usize, l: Line) -> Line {
 
 pub(crate) fn read(s: &[u8]) -> Line {
     if s.len() < 3 {
-        return unread();
+        return UNREAD;
     }
     if s[0] != b'a' && s[0] != b'g' {
-        return unread();
+        return UNREAD;
     }
     if s[1] != b' ' {
-        return unread();
+        return UNREAD;
     }
     let end = space(s, 2);
     let begun = Line {

@@ -64,7 +64,7 @@ fn dsc(here: &[u64]) -> bool {
     get(here, Place::DSC) == 1
 }
 
-fn call(here: &mut [u64], broken: &mut [u64], l: Line) -> u64 {
+fn call(here: &mut [u64], broken: &mut [u64], l: Line) -> Result<(), Rule> {
     let side = side_of(l.air);
     let d = dsc(here);
     let word = l.word;
@@ -93,7 +93,7 @@ fn call(here: &mut [u64], broken: &mut [u64], l: Line) -> u64 {
     }
 }
 
-fn host(here: &mut [u64], there: &mut [u64], broken: &mut [u64], l: Line) -> u64 {
+fn host(here: &mut [u64], there: &mut [u64], broken: &mut [u64], l: Line) -> Result<(), Rule> {
     let word = l.word;
     match word {
         19 => steps::shown(here),
@@ -108,7 +108,7 @@ fn host(here: &mut [u64], there: &mut [u64], broken: &mut [u64], l: Line) -> u64
     }
 }
 
-fn job(here: &mut [u64], there: &[u64], may: bool, l: Line) -> u64 {
+fn job(here: &mut [u64], there: &[u64], may: bool, l: Line) -> Result<(), Rule> {
     let side = side_of(l.air);
     let word = l.word;
     match word {
@@ -124,24 +124,36 @@ fn job(here: &mut [u64], there: &[u64], may: bool, l: Line) -> u64 {
 }
 
 // No start can be for the end from which all starts come.
-fn hear(here: &mut [u64], there: &mut [u64], broken: &mut [u64], may: bool, l: Line) -> u64 {
+fn hear(
+    here: &mut [u64],
+    there: &mut [u64],
+    broken: &mut [u64],
+    may: bool,
+    l: Line,
+) -> Result<(), Rule> {
     let side = side_of(l.air);
     if l.word == 39 {
         return steps::hear_end(here, there, broken, side, l.a);
     }
     if l.word == 30 && may {
-        return 17;
+        return Err(Rule::Expected);
     }
     if l.word < 30 {
-        return Rule::UNREADABLE;
+        return Err(Rule::Unreadable);
     }
     steps::hear(here, there, broken, side, l.word - 30, l.a, l.b, l.c)
 }
 
 // The end whose host makes the move comes first.
-fn move_on(here: &mut [u64], there: &mut [u64], broken: &mut [u64], may: bool, l: Line) -> u64 {
+fn move_on(
+    here: &mut [u64],
+    there: &mut [u64],
+    broken: &mut [u64],
+    may: bool,
+    l: Line,
+) -> Result<(), Rule> {
     if l.word < 2 {
-        return Rule::UNREADABLE;
+        return Err(Rule::Unreadable);
     }
     if l.word < 10 {
         return job(here, there, may, l);
@@ -157,34 +169,34 @@ fn move_on(here: &mut [u64], there: &mut [u64], broken: &mut [u64], may: bool, l
 
 // The first line says from which side all starts come, and what the two records hold at the beginning: number and highest job of the air's, of the ground's. The
 // end that starts has no lower number than the other.
-fn begin_dialogue(air: &mut [u64], ground: &mut [u64], l: Line) -> u64 {
+fn begin_dialogue(air: &mut [u64], ground: &mut [u64], l: Line) -> Result<(), Rule> {
     if l.air && l.a < l.c {
-        return 12;
+        return Err(Rule::Number);
     }
     if !l.air && l.c < l.a {
-        return 12;
+        return Err(Rule::Number);
     }
     put(air, Place::NUMBER, l.a);
     put(air, Place::HIGHEST, l.b);
     put(ground, Place::NUMBER, l.c);
     put(ground, Place::HIGHEST, l.d);
-    0
+    Ok(())
 }
 
 // Of two centres the first line is that of the one that forwards, and the second that of the other.
-fn begin(air: &mut [u64], ground: &mut [u64], watch: &mut [u64], l: Line) -> u64 {
+fn begin(air: &mut [u64], ground: &mut [u64], watch: &mut [u64], l: Line) -> Result<(), Rule> {
     if l.word == 1 {
         return begin_dialogue(air, ground, l);
     }
     if l.word != 50 {
-        return Rule::UNREADABLE;
+        return Err(Rule::Unreadable);
     }
     if l.air {
         forwards::join(air, watch, l);
-        return 0;
+        return Ok(());
     }
     forwards::join(ground, watch, l);
-    0
+    Ok(())
 }
 
 fn begin_other(
@@ -193,25 +205,25 @@ fn begin_other(
     watch: &mut [u64],
     from_air: bool,
     l: Line,
-) -> u64 {
+) -> Result<(), Rule> {
     if l.word != 50 {
-        return Rule::UNREADABLE;
+        return Err(Rule::Unreadable);
     }
     if l.air == from_air {
-        return Rule::UNREADABLE;
+        return Err(Rule::Unreadable);
     }
     if l.air {
         if get(ground, Place::NUMBER) < l.a {
-            return 12;
+            return Err(Rule::Number);
         }
         forwards::join(air, watch, l);
-        return 0;
+        return Ok(());
     }
     if get(air, Place::NUMBER) < l.a {
-        return 12;
+        return Err(Rule::Number);
     }
     forwards::join(ground, watch, l);
-    0
+    Ok(())
 }
 
 // The end whose host makes the move comes first.
@@ -223,15 +235,15 @@ fn make(
     r: Run,
     may: bool,
     l: Line,
-) -> u64 {
+) -> Result<(), Rule> {
     if watched::owes(watch, l.air) {
-        return 11;
+        return Err(Rule::Book);
     }
     if r.centres {
         return forwards::move_on(here, there, broken, watch, may, l);
     }
     if 49 < l.word {
-        return Rule::CARD;
+        return Err(Rule::Card);
     }
     move_on(here, there, broken, may, l)
 }
@@ -243,7 +255,7 @@ fn advance(
     watch: &mut [u64],
     r: Run,
     l: Line,
-) -> u64 {
+) -> Result<(), Rule> {
     if l.air {
         if watched::is_said(l.word) {
             return watched::says(watch, air, l);
@@ -263,15 +275,15 @@ fn go_on(
     watch: &mut [u64],
     r: Run,
     l: Line,
-) -> u64 {
+) -> Result<(), Rule> {
     if l.word < 2 || l.word == 50 {
-        return Rule::UNREADABLE;
+        return Err(Rule::Unreadable);
     }
-    let rule = advance(air, ground, broken, watch, r, l);
-    if rule == 0 && !watched::is_said(l.word) {
+    advance(air, ground, broken, watch, r, l)?;
+    if !watched::is_said(l.word) {
         watched::moved(watch, air, ground, l);
     }
-    rule
+    Ok(())
 }
 
 // ---- the file
@@ -280,7 +292,7 @@ fn say_number(rt: &impl Print, n: u64) {
     let _ = rt.print(n);
 }
 
-fn name(rt: &impl Print, count: u64, rule: u64, text: &[u8]) {
+fn name(rt: &impl Print, count: u64, rule: Rule, text: &[u8]) {
     say(rt, b"line ");
     say_number(rt, count);
     say(rt, b": ");
@@ -328,21 +340,28 @@ fn one_line(
 ) -> Run {
     let l = lines::read(text);
     if r.count == 0 {
-        let rule = begin(air, ground, watch, l);
-        return counted(rt, r, l.air, l.word == 50, rule, text);
+        let made = begin(air, ground, watch, l);
+        return counted(rt, r, l.air, l.word == 50, made, text);
     }
     if r.centres && r.count == 1 {
-        let rule = begin_other(air, ground, watch, r.from_air, l);
-        return counted(rt, r, r.from_air, true, rule, text);
+        let made = begin_other(air, ground, watch, r.from_air, l);
+        return counted(rt, r, r.from_air, true, made, text);
     }
-    let rule = go_on(air, ground, broken, watch, r, l);
-    counted(rt, r, r.from_air, r.centres, rule, text)
+    let made = go_on(air, ground, broken, watch, r, l);
+    counted(rt, r, r.from_air, r.centres, made, text)
 }
 
 // A line that breaks a rule is named, and that is the end.
-fn counted(rt: &impl Print, r: Run, from_air: bool, centres: bool, rule: u64, text: &[u8]) -> Run {
+fn counted(
+    rt: &impl Print,
+    r: Run,
+    from_air: bool,
+    centres: bool,
+    made: Result<(), Rule>,
+    text: &[u8],
+) -> Run {
     let count = next(r.count);
-    if rule != 0 {
+    if let Err(rule) = made {
         name(rt, count, rule, text);
     }
     Run {
@@ -350,15 +369,16 @@ fn counted(rt: &impl Print, r: Run, from_air: bool, centres: bool, rule: u64, te
         centres,
         count,
         bytes: 0,
-        over: rule != 0,
+        over: made.is_err(),
     }
 }
 
 fn next(count: u64) -> u64 {
     if count < 1000000000000 {
-        return count + 1;
+        count + 1
+    } else {
+        count
     }
-    count
 }
 
 // One byte more.
@@ -382,20 +402,16 @@ fn one_byte(
     if n < text.len() {
         text[n] = x;
         return Run {
-            from_air: r.from_air,
-            centres: r.centres,
-            count: r.count,
             bytes: n + 1,
             over: false,
+            ..r
         };
     }
-    name(rt, r.count, Rule::UNREADABLE, text);
+    name(rt, r.count, Rule::Unreadable, text);
     Run {
-        from_air: r.from_air,
-        centres: r.centres,
-        count: r.count,
         bytes: 0,
         over: true,
+        ..r
     }
 }
 
@@ -411,13 +427,11 @@ fn some(
     s: &[u8],
 ) -> Run {
     let mut run = r;
-    let mut i: usize = 0;
-    while i < s.len() {
-        run = one_byte(rt, air, ground, broken, watch, text, run, s[i]);
+    for &x in s {
+        run = one_byte(rt, air, ground, broken, watch, text, run, x);
         if run.over {
-            return run;
+            break;
         }
-        i += 1;
     }
     run
 }
@@ -457,8 +471,7 @@ fn read_on(
         bytes: 0,
         over: false,
     };
-    let mut left: u64 = 65536;
-    while 0 < left {
+    for _ in 0..65536 {
         let n = read_full(input, chunk);
         if n == 0 {
             finish(rt, run);
@@ -468,7 +481,6 @@ fn read_on(
         if run.over {
             return;
         }
-        left -= 1;
     }
     say(rt, b"the file is too long\n");
 }
@@ -496,10 +508,7 @@ fn replay(rt: &impl Print, input: &mut impl io::Read) {
 fn argument(rt: &impl Env, number: usize, buf: &mut [u8]) -> usize
     ensures { result ≤ length buf.new }
 {
-    match rt.arg(number, buf) {
-        Ok(n) => n,
-        Err(_) => 0,
-    }
+    rt.arg(number, buf).unwrap_or(0)
 }
 
 // Whether there is an argument of this number.

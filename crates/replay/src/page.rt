@@ -1,8 +1,10 @@
 // What is held of one end and its host, in one range of numbers: the record, its power, and four lists. A list has its count, and its places from a first one on.
 // Nothing here is refused but what finds no room; that ends the run.
-ghost use Rattle.std.specs.Prelude.{◌≡◌, eqb, get_or, set};
-ghost use Rattle.tables.specs.Tables.{left, state_of, flag_of, held_in, holding, pushed, member, among, noted, is_noted, told, entry_in, set_entry, put_on_line, counted_if, settled, stays_of, trimmed, is_start_of, start_in, drawn, removed, mark_broken, marked_line};
+// It is a range of numbers and no struct: the theorem of crate tables_laws is about the places of a page (specs/Tables of crate tables).
+ghost use Rattle.std.specs.Prelude.{◌≡◌, is_ok, eqb, get_or, set};
+ghost use Rattle.tables.specs.Tables.{left, state_of, held_in, holding, pushed, member, among, noted, is_noted, told, entry_in, set_entry, put_on_line, counted_if, settled, stays_of, trimmed, is_start_of, start_in, drawn, removed, mark_broken, marked_line};
 
+use crate::rules::Full;
 use control::{Control, State};
 use moves::Held;
 
@@ -94,34 +96,26 @@ fn state_of(code: u64) -> State
     }
 }
 
+#[tactic(auto, unfolding(tables::specs::Tables::held_in))]
 pub(crate) fn held(p: &[u64]) -> Held
     ensures { result ≡ held_in p.now }
 {
-    let state = state_of(get(p, Place::STATE));
-    let control = Control {
-        state,
-        dsc: get(p, Place::DSC) == 1,
-    };
     Held {
-        control,
+        control: Control {
+            state: state_of(get(p, Place::STATE)),
+            dsc: get(p, Place::DSC) == 1,
+        },
         number: get(p, Place::NUMBER),
         highest: get(p, Place::HIGHEST),
     }
 }
 
-fn flag(b: bool) -> u64
-    ensures { result ≡ flag_of b }
-{
-    if b { 1 } else { 0 }
-}
-
+#[tactic(auto, unfolding(tables::specs::Tables::holding))]
 pub(crate) fn hold(p: &mut [u64], r: Held)
     ensures { p.new ≡ holding p.old r }
 {
-    let c = r.control;
-    let s = c.state;
-    put(p, Place::STATE, control::number(s));
-    put(p, Place::DSC, flag(c.dsc));
+    put(p, Place::STATE, u64::from(r.control.state));
+    put(p, Place::DSC, u64::from(r.control.dsc));
     put(p, Place::NUMBER, r.number);
     put(p, Place::HIGHEST, r.highest);
 }
@@ -138,10 +132,7 @@ pub(crate) fn is_idle(p: &[u64]) -> bool
 fn at(p: &[u64], from: usize, i: u64) -> u64
     ensures { result ≡ member p.now from i }
 {
-    if 4294967296 < from {
-        return 0;
-    }
-    if 4294967296 < i {
+    if 4294967296 < from || 4294967296 < i {
         return 0;
     }
     get(p, from + i as usize)
@@ -151,33 +142,32 @@ fn at(p: &[u64], from: usize, i: u64) -> u64
 pub(crate) fn is_among(p: &[u64], from: usize, count: u64, x: u64) -> bool
     ensures { result ≡ among p.now from count x }
 {
-    let mut i: u64 = 0;
-    while i < count {
+    for i in 0..count {
         if at(p, from, i) == x {
             return true;
         }
-        i += 1;
     }
     false
 }
 
-// One behind the others; false where there is no room.
-pub(crate) fn push(p: &mut [u64], counter: usize, from: usize, most: u64, x: u64) -> bool
-    ensures { left result p.new ≡ pushed p.old counter from most x }
+// One behind the others.
+#[tactic(auto, unfolding(tables::specs::Tables::pushed))]
+pub(crate) fn push(
+    p: &mut [u64],
+    counter: usize,
+    from: usize,
+    most: u64,
+    x: u64,
+) -> Result<(), Full>
+    ensures { left (is_ok result) p.new ≡ pushed p.old counter from most x }
 {
     let n = get(p, counter);
-    if most <= n {
-        return false;
-    }
-    if 4294967296 < from {
-        return false;
-    }
-    if 4294967296 < n {
-        return false;
+    if most <= n || 4294967296 < from || 4294967296 < n {
+        return Err(Full {});
     }
     put(p, from + n as usize, x);
     put(p, counter, n + 1);
-    true
+    Ok(())
 }
 
 pub(crate) fn is_decided(p: &[u64], job: u64) -> bool
@@ -186,8 +176,9 @@ pub(crate) fn is_decided(p: &[u64], job: u64) -> bool
     is_among(p, Place::DECIDED_AT, get(p, Place::DECIDED), job)
 }
 
-pub(crate) fn decide(p: &mut [u64], job: u64) -> bool
-    ensures { left result p.new ≡ pushed p.old 8 3088 16384 job }
+#[tactic(auto, unfolding(tables::specs::Tables::pushed))]
+pub(crate) fn decide(p: &mut [u64], job: u64) -> Result<(), Full>
+    ensures { left (is_ok result) p.new ≡ pushed p.old 8 3088 16384 job }
 {
     push(
         p,
@@ -198,39 +189,36 @@ pub(crate) fn decide(p: &mut [u64], job: u64) -> bool
     )
 }
 
-pub(crate) fn open_job(p: &mut [u64], job: u64) -> bool
-    ensures { left result p.new ≡ pushed p.old 9 19472 1024 job }
+#[tactic(auto, unfolding(tables::specs::Tables::pushed))]
+pub(crate) fn open_job(p: &mut [u64], job: u64) -> Result<(), Full>
+    ensures { left (is_ok result) p.new ≡ pushed p.old 9 19472 1024 job }
 {
     push(p, Place::OPENED, Place::OPENED_AT, Place::OPENED_MOST, job)
 }
 
 // ---- notices
 
-pub(crate) fn note(p: &mut [u64], job: u64, fate: u64) -> bool
-    ensures { left result p.new ≡ noted p.old job fate }
+#[tactic(auto, unfolding(tables::specs::Tables::noted))]
+pub(crate) fn note(p: &mut [u64], job: u64, fate: u64) -> Result<(), Full>
+    ensures { left (is_ok result) p.new ≡ noted p.old job fate }
 {
     let n = get(p, Place::NOTICES);
-    if n < Place::NOTICES_MOST {
-        let at = Place::NOTICES_AT + 2 * n as usize;
-        put(p, at, job);
-        put(p, at + 1, fate);
-        put(p, Place::NOTICES, n + 1);
-        return true;
+    if Place::NOTICES_MOST <= n {
+        return Err(Full {});
     }
-    false
+    let at = Place::NOTICES_AT + 2 * n as usize;
+    put(p, at, job);
+    put(p, at + 1, fate);
+    put(p, Place::NOTICES, n + 1);
+    Ok(())
 }
 
 // The notice of a number, from 1 on, is this one.
+#[tactic(auto, unfolding(tables::specs::Tables::is_noted))]
 pub(crate) fn is_noted(p: &[u64], number: u64, job: u64, fate: u64) -> bool
     ensures { result ≡ is_noted p.now number job fate }
 {
-    if number == 0 {
-        return false;
-    }
-    if get(p, Place::NOTICES) < number {
-        return false;
-    }
-    if Place::NOTICES_MOST < number {
+    if number == 0 || get(p, Place::NOTICES) < number || Place::NOTICES_MOST < number {
         return false;
     }
     let at = Place::NOTICES_AT + 2 * (number - 1) as usize;
@@ -238,40 +226,36 @@ pub(crate) fn is_noted(p: &[u64], number: u64, job: u64, fate: u64) -> bool
 }
 
 // Every open job gets its fate.
-pub(crate) fn tell(p: &mut [u64], fate: u64) -> bool
-    ensures { left result p.new ≡ told p.old fate }
+#[tactic(auto, using(crate::proofs::Breaks::broken))]
+pub(crate) fn tell(p: &mut [u64], fate: u64) -> Result<(), Full>
+    ensures { left (is_ok result) p.new ≡ told p.old fate }
 {
     let n = get(p, Place::OPENED);
-    let mut i: u64 = 0;
-    while i < n {
+    for i in 0..n {
         if Place::OPENED_MOST <= i {
-            return false;
+            return Err(Full {});
         }
         let job = get(p, Place::OPENED_AT + i as usize);
-        if !note(p, job, fate) {
-            return false;
-        }
-        i += 1;
+        note(p, job, fate)?;
     }
     put(p, Place::OPENED, 0);
-    true
+    Ok(())
 }
 
 // ---- the line
 
 // A field of an entry: 0 its kind, 1 its number, 2 its job.
+#[tactic(auto, unfolding(tables::specs::Tables::entry_in))]
 pub(crate) fn entry(p: &[u64], i: u64, field: usize) -> u64
     ensures { result ≡ entry_in p.now i field }
 {
-    if Place::LINE_MOST <= i {
-        return 0;
-    }
-    if 2 < field {
+    if Place::LINE_MOST <= i || 2 < field {
         return 0;
     }
     get(p, Place::LINE_AT + 3 * i as usize + field)
 }
 
+#[tactic(auto, unfolding(tables::specs::Tables::set_entry))]
 fn set_entry(p: &mut [u64], i: u64, kind: u64, number: u64, job: u64)
     ensures { p.new ≡ set_entry p.old i kind number job }
 {
@@ -284,37 +268,30 @@ fn set_entry(p: &mut [u64], i: u64, kind: u64, number: u64, job: u64)
 }
 
 // An entry goes behind the others. It has not left.
-pub(crate) fn put_on_line(p: &mut [u64], kind: u64, number: u64, job: u64) -> bool
-    ensures { left result p.new ≡ put_on_line p.old kind number job }
+#[tactic(auto, unfolding(tables::specs::Tables::put_on_line))]
+pub(crate) fn put_on_line(p: &mut [u64], kind: u64, number: u64, job: u64) -> Result<(), Full>
+    ensures { left (is_ok result) p.new ≡ put_on_line p.old kind number job }
 {
     let n = get(p, Place::ENTRIES);
     let unsent = get(p, Place::UNSENT);
-    if Place::LINE_MOST <= n {
-        return false;
-    }
-    if Place::LINE_MOST <= unsent {
-        return false;
+    if Place::LINE_MOST <= n || Place::LINE_MOST <= unsent {
+        return Err(Full {});
     }
     set_entry(p, n, kind, number, job);
     put(p, Place::ENTRIES, n + 1);
     put(p, Place::UNSENT, unsent + 1);
-    true
+    Ok(())
 }
 
 // A count that does not go past the largest number.
 fn counted(n: u64, yes: bool) -> u64
     ensures { result ≡ counted_if n yes }
 {
-    if !yes {
-        return n;
-    }
-    if 4294967296 < n {
-        return n;
-    }
-    n + 1
+    if yes && n <= 4294967296 { n + 1 } else { n }
 }
 
 // An entry that stays goes to its new place.
+#[tactic(auto, unfolding(tables::specs::Tables::settled))]
 fn settle(p: &mut [u64], i: u64, to: u64, stays: bool)
     ensures { p.new ≡ settled p.old i to stays }
 {
@@ -327,10 +304,7 @@ fn settle(p: &mut [u64], i: u64, to: u64, stays: bool)
 fn may_stay(of: bool, met: u64, left: u64) -> bool
     ensures { result ≡ stays_of of met left }
 {
-    if of {
-        return met < left;
-    }
-    true
+    !of || met < left
 }
 
 // Of the entries of a dialogue the first so many are left.
@@ -338,16 +312,14 @@ pub(crate) fn trim(p: &mut [u64], number: u64, left: u64)
     ensures { p.new ≡ trimmed p.old number left }
 {
     let n = get(p, Place::ENTRIES);
-    let mut i: u64 = 0;
     let mut kept: u64 = 0;
     let mut met: u64 = 0;
-    while i < n {
+    for i in 0..n {
         let of = entry(p, i, 1) == number;
         let stays = may_stay(of, met, left);
         settle(p, i, kept, stays);
         kept = counted(kept, stays);
         met = counted(met, of);
-        i += 1;
     }
     put(p, Place::ENTRIES, kept);
 }
@@ -356,10 +328,7 @@ pub(crate) fn trim(p: &mut [u64], number: u64, left: u64)
 fn is_start_of(p: &[u64], i: u64, number: u64) -> bool
     ensures { result ≡ is_start_of p.now i number }
 {
-    if entry(p, i, 0) < 2 {
-        return entry(p, i, 1) == number;
-    }
-    false
+    entry(p, i, 0) < 2 && entry(p, i, 1) == number
 }
 
 // Where the start of a dialogue is on the line; or the count of entries.
@@ -367,17 +336,16 @@ pub(crate) fn start_at(p: &[u64], number: u64) -> u64
     ensures { result ≡ start_in p.now number }
 {
     let n = get(p, Place::ENTRIES);
-    let mut i: u64 = 0;
-    while i < n {
+    for i in 0..n {
         if is_start_of(p, i, number) {
             return i;
         }
-        i += 1;
     }
     n
 }
 
 // The entry behind a place comes to it.
+#[tactic(auto, unfolding(tables::specs::Tables::drawn))]
 fn draw(p: &mut [u64], i: u64)
     ensures { p.new ≡ drawn p.old i }
 {
@@ -401,10 +369,8 @@ pub(crate) fn remove(p: &mut [u64], at: u64)
     if n <= at {
         return;
     }
-    let mut i = at;
-    while i < n {
+    for i in at..n {
         draw(p, i);
-        i += 1;
     }
     put(p, Place::ENTRIES, n - 1);
 }
@@ -417,26 +383,24 @@ pub(crate) fn is_broken(b: &[u64], number: u64) -> bool
     is_among(b, 1, get(b, 0), number)
 }
 
-pub(crate) fn mark_broken(b: &mut [u64], number: u64) -> bool
-    ensures { left result b.new ≡ mark_broken b.old number }
+#[tactic(auto, unfolding(tables::specs::Tables::mark_broken))]
+pub(crate) fn mark_broken(b: &mut [u64], number: u64) -> Result<(), Full>
+    ensures { left (is_ok result) b.new ≡ mark_broken b.old number }
 {
     if is_broken(b, number) {
-        return true;
+        return Ok(());
     }
     push(b, 0, 1, 4096, number)
 }
 
 // Each dialogue that has an entry on the line is broken.
-pub(crate) fn mark_line(b: &mut [u64], p: &[u64]) -> bool
-    ensures { left result b.new ≡ marked_line b.old p.now }
+#[tactic(auto, using(crate::proofs::Breaks::broken))]
+pub(crate) fn mark_line(b: &mut [u64], p: &[u64]) -> Result<(), Full>
+    ensures { left (is_ok result) b.new ≡ marked_line b.old p.now }
 {
     let n = get(p, Place::ENTRIES);
-    let mut i: u64 = 0;
-    while i < n {
-        if !mark_broken(b, entry(p, i, 1)) {
-            return false;
-        }
-        i += 1;
+    for i in 0..n {
+        mark_broken(b, entry(p, i, 1))?;
     }
-    true
+    Ok(())
 }

@@ -1,6 +1,7 @@
 // What the lines say that are no moves: the bits of a message, the reason of a refusal, the kind of an envelope, the book of message numbers, what a position
 // shows. Each speaks of the last move of its host, and is held against what was said before. One range of numbers has a part for each side.
 ghost use Rattle.std.specs.Prelude.{◌≡◌, false, not, cond, eqb, leb, ltb};
+ghost use Rattle.replay.specs.Rules.{rule_number, number_of};
 ghost use Rattle.replay.specs.Watched.{held, of_side, looked, kept, job_at, said_at, found_in, is_known, agrees_with, learned, about_job, bits_held, reason_held, posts_rule, is_open_in, marked, opens_held, is_heard, replies_held, closes_held, discards_held, saw, opened_held, closed_held, said_held, job_of, moved_on};
 
 use crate::lines::Line;
@@ -46,13 +47,7 @@ impl Spot {
 fn of_side(air: bool, at: usize) -> usize
     ensures { result ≡ of_side air at }
 {
-    if air {
-        return at;
-    }
-    if 32895 < at {
-        return at;
-    }
-    at + 32896
+    if air || 32895 < at { at } else { at + 32896 }
 }
 
 pub(crate) fn look(w: &[u64], air: bool, at: usize) -> u64
@@ -93,12 +88,10 @@ fn said_at(w: &[u64], air: bool, i: u64) -> u64
 fn find(w: &[u64], air: bool, job: u64, n: u64) -> u64
     ensures { result ≡ found_in w.now air job n }
 {
-    let mut i: u64 = 0;
-    while i < n {
+    for i in 0..n {
         if job_at(w, air, i) == job {
             return i;
         }
-        i += 1;
     }
     n
 }
@@ -114,83 +107,80 @@ fn is_known(w: &[u64], air: bool, job: u64) -> bool
 fn agrees(w: &[u64], air: bool, job: u64, said: u64) -> bool
     ensures { result ≡ agrees_with w.now air job said }
 {
-    if !is_known(w, air, job) {
-        return true;
-    }
     let n = look(w, air, Spot::KNOWN);
-    said_at(w, air, find(w, air, job, n)) == said
+    !is_known(w, air, job) || said_at(w, air, find(w, air, job, n)) == said
 }
 
-fn learn(w: &mut [u64], air: bool, job: u64, said: u64) -> u64
-    ensures { held result w.new ≡ learned w.old air job said }
+#[tactic(auto, unfolding(crate::specs::Watched::learned))]
+fn learn(w: &mut [u64], air: bool, job: u64, said: u64) -> Result<(), Rule>
+    ensures { held (number_of result) w.new ≡ learned w.old air job said }
 {
     if is_known(w, air, job) {
-        return 0;
+        return Ok(());
     }
     let n = look(w, air, Spot::KNOWN);
     if Spot::KNOWN_MOST <= n {
-        return Rule::ROOM;
+        return Err(Rule::Room);
     }
     keep(w, air, Spot::JOBS_AT + n as usize, job);
     keep(w, air, Spot::SAID_AT + n as usize, said);
     keep(w, air, Spot::KNOWN, n + 1);
-    0
+    Ok(())
 }
 
 // What a line says of the job of a move. Behind the word `learns` it is learned; behind `checks` it is held against what the side `of` has learned.
+#[tactic(auto, unfolding(crate::specs::Watched::about_job))]
 fn about_job(
     w: &mut [u64],
     air: bool,
     of: bool,
     learns: u64,
     checks: u64,
-    rule: u64,
+    rule: Rule,
     said: u64,
-) -> u64
-    ensures { held result w.new ≡ about_job w.old air of learns checks rule said }
+) -> Result<(), Rule>
+    ensures { held (number_of result) w.new ≡ about_job w.old air of learns checks (rule_number rule) said }
 {
     let word = look(w, air, Spot::WORD);
     let job = look(w, air, Spot::JOB);
     if word == checks {
-        if agrees(w, of, job, said) {
-            return 0;
-        }
-        return rule;
+        return if agrees(w, of, job, said) {
+            Ok(())
+        } else {
+            Err(rule)
+        };
     }
     if word != learns {
-        return Rule::BEHIND;
+        return Err(Rule::Behind);
     }
     if !agrees(w, air, job, said) {
-        return rule;
+        return Err(rule);
     }
     learn(w, air, job, said)
 }
 
 // The bits of a message: behind `takes` what was asked for, behind `hears-data` what was handed out.
-fn bits(w: &mut [u64], air: bool, digest: u64) -> u64
-    ensures { held result w.new ≡ bits_held w.old air digest }
+fn bits(w: &mut [u64], air: bool, digest: u64) -> Result<(), Rule>
+    ensures { held (number_of result) w.new ≡ bits_held w.old air digest }
 {
-    about_job(w, air, !air, 2, 34, Rule::ANOTHER, digest)
+    about_job(w, air, !air, 2, 34, Rule::Another, digest)
 }
 
 // The reason of a refusal: behind `refuses` why, behind `tells-refused` what is told.
-fn reason(w: &mut [u64], air: bool, why: u64) -> u64
-    ensures { held result w.new ≡ reason_held w.old air why }
+fn reason(w: &mut [u64], air: bool, why: u64) -> Result<(), Rule>
+    ensures { held (number_of result) w.new ≡ reason_held w.old air why }
 {
-    about_job(w, air, air, 3, 5, 4, why)
+    about_job(w, air, air, 3, 5, Rule::Fate, why)
 }
 
 // A message goes to its user as one that was delivered.
-fn posts(w: &[u64], air: bool, kind: u64) -> u64
-    ensures { result ≡ posts_rule w.now air kind }
+fn posts(w: &[u64], air: bool, kind: u64) -> Result<(), Rule>
+    ensures { number_of result ≡ posts_rule w.now air kind }
 {
     if look(w, air, Spot::WORD) != 19 {
-        return Rule::BEHIND;
+        return Err(Rule::Behind);
     }
-    if kind == 2 {
-        return 0;
-    }
-    Rule::KIND
+    if kind == 2 { Ok(()) } else { Err(Rule::Kind) }
 }
 
 // ---- the book. Its numbers are those of a dialogue: with the next one all of them are free.
@@ -198,10 +188,7 @@ fn posts(w: &[u64], air: bool, kind: u64) -> u64
 fn is_open(w: &[u64], air: bool, dialogue: u64, number: u64) -> bool
     ensures { result ≡ is_open_in w.now air dialogue number }
 {
-    if Spot::NUMBERS <= number {
-        return false;
-    }
-    if dialogue == 0 {
+    if Spot::NUMBERS <= number || dialogue == 0 {
         return false;
     }
     look(w, air, Spot::BOOK_AT + number as usize) == dialogue
@@ -215,77 +202,69 @@ fn mark(w: &mut [u64], air: bool, number: u64, dialogue: u64)
     }
 }
 
-fn opens(w: &mut [u64], air: bool, dialogue: u64, number: u64) -> u64
-    ensures { held result w.new ≡ opens_held w.old air dialogue number }
+#[tactic(auto, unfolding(crate::specs::Watched::opens_held))]
+fn opens(w: &mut [u64], air: bool, dialogue: u64, number: u64) -> Result<(), Rule>
+    ensures { held (number_of result) w.new ≡ opens_held w.old air dialogue number }
 {
     if look(w, air, Spot::WORD) != 2 {
-        return Rule::BEHIND;
+        return Err(Rule::Behind);
     }
-    if Spot::NUMBERS <= number {
-        return 11;
-    }
-    if is_open(w, air, dialogue, number) {
-        return 11;
+    if Spot::NUMBERS <= number || is_open(w, air, dialogue, number) {
+        return Err(Rule::Book);
     }
     mark(w, air, number, dialogue);
-    0
+    Ok(())
 }
 
 fn is_heard(word: u64) -> bool
     ensures { result ≡ is_heard word }
 {
     if 49 < word {
-        return word == 52 || word == 53;
+        word == 52 || word == 53
+    } else {
+        29 < word
     }
-    29 < word
 }
 
 // A message that was heard names a number. If it is open, it is closed with it.
-fn replies(w: &mut [u64], air: bool, dialogue: u64, number: u64) -> u64
-    ensures { held result w.new ≡ replies_held w.old air dialogue number }
+#[tactic(auto, unfolding(crate::specs::Watched::replies_held))]
+fn replies(w: &mut [u64], air: bool, dialogue: u64, number: u64) -> Result<(), Rule>
+    ensures { held (number_of result) w.new ≡ replies_held w.old air dialogue number }
 {
     if !is_heard(look(w, air, Spot::WORD)) {
-        return Rule::BEHIND;
+        return Err(Rule::Behind);
     }
     if look(w, air, Spot::REPLY) != 0 {
-        return 11;
+        return Err(Rule::Book);
     }
-    if Spot::NUMBERS <= number {
-        return 0;
+    if number < Spot::NUMBERS && is_open(w, air, dialogue, number) {
+        keep(w, air, Spot::REPLY, number + 1);
     }
-    if !is_open(w, air, dialogue, number) {
-        return 0;
-    }
-    keep(w, air, Spot::REPLY, number + 1);
-    0
+    Ok(())
 }
 
-fn closes(w: &mut [u64], air: bool, number: u64) -> u64
-    ensures { held result w.new ≡ closes_held w.old air number }
+#[tactic(auto, unfolding(crate::specs::Watched::closes_held))]
+fn closes(w: &mut [u64], air: bool, number: u64) -> Result<(), Rule>
+    ensures { held (number_of result) w.new ≡ closes_held w.old air number }
 {
-    if Spot::NUMBERS <= number {
-        return 11;
-    }
-    if look(w, air, Spot::REPLY) != number + 1 {
-        return 11;
+    if Spot::NUMBERS <= number || look(w, air, Spot::REPLY) != number + 1 {
+        return Err(Rule::Book);
     }
     keep(w, air, Spot::REPLY, 0);
     mark(w, air, number, 0);
-    0
+    Ok(())
 }
 
 // A position says that a number is free, without a reply.
-fn discards(w: &mut [u64], air: bool, dialogue: u64, number: u64) -> u64
-    ensures { held result w.new ≡ discards_held w.old air dialogue number }
+#[tactic(auto, unfolding(crate::specs::Watched::discards_held))]
+fn discards(w: &mut [u64], air: bool, dialogue: u64, number: u64) -> Result<(), Rule>
+    ensures { held (number_of result) w.new ≡ discards_held w.old air dialogue number }
 {
-    if look(w, air, Spot::REPLY) != 0 {
-        return 11;
-    }
-    if !is_open(w, air, dialogue, number) {
-        return 11;
+    if look(w, air, Spot::REPLY) != 0 || !is_open(w, air, dialogue, number) {
+        return Err(Rule::Book);
     }
     mark(w, air, number, 0);
-    0
+    Ok(())
 }
 
 // ---- what a position shows
@@ -294,45 +273,38 @@ fn discards(w: &mut [u64], air: bool, dialogue: u64, number: u64) -> u64
 fn see(w: &mut [u64], p: &[u64], air: bool)
     ensures { w.new ≡ saw w.old p.now air }
 {
-    if get(p, Place::POWER) != 0 {
-        keep(w, air, Spot::WAS_CLOSED, 1);
-        return;
-    }
-    if get(p, Place::STATE) == 0 {
-        keep(w, air, Spot::WAS_CLOSED, 1);
-        return;
-    }
-    keep(w, air, Spot::WAS_OPEN, 1);
+    let spot = if get(p, Place::POWER) != 0 || get(p, Place::STATE) == 0 {
+        Spot::WAS_CLOSED
+    } else {
+        Spot::WAS_OPEN
+    };
+    keep(w, air, spot, 1);
 }
 
-fn opened(w: &mut [u64], here: &[u64], air: bool) -> u64
-    ensures { held result w.new ≡ opened_held w.old here.now air }
+#[tactic(auto, unfolding(crate::specs::Watched::opened_held))]
+fn opened(w: &mut [u64], here: &[u64], air: bool) -> Result<(), Rule>
+    ensures { held (number_of result) w.new ≡ opened_held w.old here.now air }
 {
-    if look(w, air, Spot::SHOWN) != 0 {
-        return 16;
-    }
-    if look(w, air, Spot::WAS_OPEN) == 0 {
-        return 16;
+    if look(w, air, Spot::SHOWN) != 0 || look(w, air, Spot::WAS_OPEN) == 0 {
+        return Err(Rule::Position);
     }
     keep(w, air, Spot::SHOWN, 1);
     keep(w, air, Spot::WAS_CLOSED, 0);
     see(w, here, air);
-    0
+    Ok(())
 }
 
-fn closed(w: &mut [u64], here: &[u64], air: bool) -> u64
-    ensures { held result w.new ≡ closed_held w.old here.now air }
+#[tactic(auto, unfolding(crate::specs::Watched::closed_held))]
+fn closed(w: &mut [u64], here: &[u64], air: bool) -> Result<(), Rule>
+    ensures { held (number_of result) w.new ≡ closed_held w.old here.now air }
 {
-    if look(w, air, Spot::SHOWN) == 0 {
-        return 16;
-    }
-    if look(w, air, Spot::WAS_CLOSED) == 0 {
-        return 16;
+    if look(w, air, Spot::SHOWN) == 0 || look(w, air, Spot::WAS_CLOSED) == 0 {
+        return Err(Rule::Position);
     }
     keep(w, air, Spot::SHOWN, 0);
     keep(w, air, Spot::WAS_OPEN, 0);
     see(w, here, air);
-    0
+    Ok(())
 }
 
 // ---- a line
@@ -344,12 +316,12 @@ pub(crate) fn is_said(word: u64) -> bool
 }
 
 // One of these lines; `here` is the page of its side.
-pub(crate) fn says(w: &mut [u64], here: &[u64], l: Line) -> u64
-    ensures { held result w.new ≡ said_held w.old here.now l.air l.word l.a }
+#[tactic(auto, unfolding(crate::specs::Watched::said_held))]
+pub(crate) fn says(w: &mut [u64], here: &[u64], l: Line) -> Result<(), Rule>
+    ensures { held (number_of result) w.new ≡ said_held w.old here.now l.air l.word l.a }
 {
-    let word = l.word;
     let dialogue = get(here, Place::NUMBER);
-    match word {
+    match l.word {
         40 => bits(w, l.air, l.a),
         41 => reason(w, l.air, l.a),
         42 => posts(w, l.air, l.a),
@@ -373,10 +345,8 @@ pub(crate) fn owes(w: &[u64], air: bool) -> bool
 fn job_of(l: Line) -> u64
     ensures { result ≡ job_of l.word l.a l.b l.c }
 {
-    let word = l.word;
-    match word {
-        2 => l.a,
-        3 => l.a,
+    match l.word {
+        2 | 3 => l.a,
         5 => l.b,
         34 => l.c,
         _ => 0,

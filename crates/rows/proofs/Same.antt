@@ -41,11 +41,11 @@ use Rattle.machine.specs.declared.event.ServicePrimitive.TheVariants.{DStartIndi
 use Rattle.machine.specs.declared.event.Event.{Event}
 use Rattle.machine.specs.declared.event.Event.TheVariants.{User, Forward, Service, TimerExpires, UnrecoverableSystemError}
 use Rattle.machine.specs.declared.faults.Fault.{Fault}
-use Rattle.machine.specs.declared.faults.Fault.TheVariants.{NoFault, NoInstruction, Quality, TurnedAway, Security, Missing, Invalid, NotPermitted}
+use Rattle.machine.specs.declared.faults.Fault.TheVariants.{NoInstruction, Quality, TurnedAway, Security, Missing, Invalid, NotPermitted}
 use Rattle.machine.specs.declared.outcome.StepRefusal.{StepRefusal}
-use Rattle.machine.specs.declared.outcome.StepRefusal.TheVariants.{None, Shape, Stale, Prohibited, NoMessage, Repeat}
+use Rattle.machine.specs.declared.outcome.StepRefusal.TheVariants.{Shape, Stale, Prohibited, NoMessage, Repeat}
 use Rattle.machine.specs.declared.outcome.Told.{Told}
-use Rattle.machine.specs.declared.outcome.Told.TheVariants.{Untold, ProviderAbortIndication, StartConfirmation, ForwardIndication}
+use Rattle.machine.specs.declared.outcome.Told.TheVariants.{ProviderAbortIndication, StartConfirmation, ForwardIndication}
 use Rattle.words.proofs.Laws.{both_left, both_right}
 use Rattle.machine.specs.declared.outcome.Outcome.{Outcome}
 use Rattle.numbered.specs.Numbers.{is_stale, numbered_step}
@@ -59,6 +59,7 @@ use Rattle.editions.specs.Editions.{secures, spares}
 use Rattle.rows.specs.Engine.{refusal_is, walk, outcome_of, row_of, rows_step, rows_numbered}
 use Rattle.rows.proofs.Wanted.{out, alike, until, refused_out, call_out, call_wanted, call_title, users, except_out, quiet_out, answer_out, handed_out, start_fault, start_instruction, can_see, start_wanted, start_conditions, confirmation_conditions, is_accepted, confirmed_fault, responded_fault, confirmation_wanted, send_conditions, send_wanted, abort_conditions, told_out, abort_wanted, fail_wanted, mem, call_alike, empty_alike, again_alike, forward_alike, start_alike, accepted_alike, rejected_alike, data_alike, end_alike, ended_alike, unended_alike, abort_alike, failing_alike, expiry_alike, stopped_alike, error_alike}
 use Rattle.rows.proofs.Alike.{alike_does, there, keeping, moved}
+use Rattle.std.specs.Prelude.{None, Option, Some}
 
 -- ---- a choice
 
@@ -107,16 +108,16 @@ end_title x m h = go (eqb x accepted) m
 -- a call of the title t does what the row says
 call_does : (sd : Side) (r : Record) (g : Parameters) (t : ℕ) (k : Call) (o : Outcome) → users k ≡ true
     → call_title k ≡ t → outcome_of r g (call_out r.control k) ≡ o
-    → outcome_of r g (walk rows sd r.control t n.plain) ≡ cond (takes sd r.control k) o (refused Prohibited r)
+    → outcome_of r g (walk rows sd r.control t n.plain) ≡ cond (takes sd r.control k) o (refused (Some Prohibited) r)
 call_does sd r g t k o u e p =
-    subst (λ (z : ℕ). outcome_of r g (walk rows sd r.control z n.plain) ≡ cond (takes sd r.control k) o (refused Prohibited r)) e
+    subst (λ (z : ℕ). outcome_of r g (walk rows sd r.control z n.plain) ≡ cond (takes sd r.control k) o (refused (Some Prohibited) r)) e
     (alike_does r g _ _ (call_alike sd r.control k u) ∙ chosen (outcome_of r g) (takes sd r.control k)
-    (call_out r.control k) (refused_out r.control n.prohibited) o (refused Prohibited r) p
+    (call_out r.control k) (refused_out r.control n.prohibited) o (refused (Some Prohibited) r) p
     (refused_does r g n.prohibited))
 
 -- without a message to refuse
 by_takes : (t : Bool) (o : Outcome) (r : Record)
-    → cond t o (refused Prohibited r) ≡ cond (is_none (cond (not t) Prohibited None)) o (refused (cond (not t) Prohibited None) r)
+    → cond t o (refused (Some Prohibited) r) ≡ cond (is_none (cond (not t) (Some Prohibited) None)) o (refused (cond (not t) (Some Prohibited) None) r)
 by_takes true o r = refl
 by_takes false o r = refl
 
@@ -125,14 +126,14 @@ message_does : (sd : Side) (r : Record) (g : Parameters) (h l : Bool) (o : Outco
     → outcome_of r g (call_out r.control MessageRequest) ≡ o
     → outcome_of r g (walk rows sd r.control n.message_request (cond (not h) n.no_message (cond l n.repeat n.plain)))
     ≡ cond (is_none
-    (cond (not (takes sd r.control MessageRequest)) Prohibited (cond (not h) NoMessage (cond l Repeat None))))
+    (cond (not (takes sd r.control MessageRequest)) (Some Prohibited) (cond (not h) (Some NoMessage) (cond l (Some Repeat) None))))
     o (refused
-    (cond (not (takes sd r.control MessageRequest)) Prohibited (cond (not h) NoMessage (cond l Repeat None)))
+    (cond (not (takes sd r.control MessageRequest)) (Some Prohibited) (cond (not h) (Some NoMessage) (cond l (Some Repeat) None)))
     r)
 message_does sd r g true true o p = alike_does r g _ _ (again_alike sd r.control) ∙ go (takes sd r.control MessageRequest)
   where
     go : (t : Bool)
-        → outcome_of r g (cond t (refused_out r.control n.repeated) (refused_out r.control n.prohibited)) ≡ cond (is_none (cond (not t) Prohibited Repeat)) o (refused (cond (not t) Prohibited Repeat) r)
+        → outcome_of r g (cond t (refused_out r.control n.repeated) (refused_out r.control n.prohibited)) ≡ cond (is_none (cond (not t) (Some Prohibited) (Some Repeat))) o (refused (cond (not t) (Some Prohibited) (Some Repeat)) r)
     go true = refused_does r g n.repeated
     go false = refused_does r g n.prohibited
 message_does sd r g true false o p = call_does sd r g n.message_request MessageRequest o refl refl p ∙ by_takes
@@ -140,7 +141,7 @@ message_does sd r g true false o p = call_does sd r g n.message_request MessageR
 message_does sd r g false l o p = alike_does r g _ _ (empty_alike sd r.control) ∙ go (takes sd r.control MessageRequest)
   where
     go : (t : Bool)
-        → outcome_of r g (cond t (refused_out r.control n.without_message) (refused_out r.control n.prohibited)) ≡ cond (is_none (cond (not t) Prohibited NoMessage)) o (refused (cond (not t) Prohibited NoMessage) r)
+        → outcome_of r g (cond t (refused_out r.control n.without_message) (refused_out r.control n.prohibited)) ≡ cond (is_none (cond (not t) (Some Prohibited) (Some NoMessage))) o (refused (cond (not t) (Some Prohibited) (Some NoMessage)) r)
     go true = refused_does r g n.without_message
     go false = refused_does r g n.prohibited
 
@@ -180,7 +181,7 @@ forward_same sd r k s =
     alike_does r (parameters k (carried r s) 0 0 0 0 Absent) _ _ (forward_alike sd r.control)
     ∙ chosen (outcome_of r (parameters k (carried r s) 0 0 0 0 Absent)) (takes_forward sd r.control)
     (out (forwarding r.control) n.yes n.yes n.security n.taken n.forward_out 0 n.untold 0)
-    (refused_out r.control n.prohibited) (forward_request r k s) (refused Prohibited r)
+    (refused_out r.control n.prohibited) (forward_request r k s) (refused (Some Prohibited) r)
     (there r (parameters k (carried r s) 0 0 0 0 Absent) (forwarding r.control) n.yes n.yes n.security n.taken
     n.forward_out 0 n.untold 0) (refused_does r (parameters k (carried r s) 0 0 0 0 Absent) n.prohibited)
     ∙ by_takes (takes_forward sd r.control) (forward_request r k s) r
@@ -192,44 +193,44 @@ unfolding outcome_of excepts aborts closes tell enter
 except_does r g true x y = refl
 except_does r g false x y = refl
 
-quiet_does : (r : Record) (g : Parameters) → outcome_of r g quiet_out ≡ closes r Untold
+quiet_does : (r : Record) (g : Parameters) → outcome_of r g quiet_out ≡ closes r None
 unfolding outcome_of closes enter
 quiet_does r g = refl
 
 quality_does : (r : Record) (g : Parameters)
-    → outcome_of r g (out closed n.no n.no n.nothing n.taken n.abort_by_provider 6 n.untold 0) ≡ aborts r 6 Untold
+    → outcome_of r g (out closed n.no n.no n.nothing n.taken n.abort_by_provider 6 n.untold 0) ≡ aborts r 6 None
 unfolding outcome_of aborts enter
 quality_does r g = refl
 
-away_does : (r : Record) (g : Parameters) → outcome_of r g (except_out false 0 4) ≡ closes r (tell r (ProviderAbortIndication 4))
+away_does : (r : Record) (g : Parameters) → outcome_of r g (except_out false 0 4) ≡ closes r (tell r (Some (ProviderAbortIndication 4)))
 unfolding outcome_of closes tell enter
 away_does r g = refl
 
-abbrev is_fault : Fault → Bool
-is_fault NoFault = false
-is_fault (NoInstruction live) = true
-is_fault Quality = true
-is_fault TurnedAway = true
-is_fault (Security live) = true
-is_fault Missing = true
-is_fault (Invalid live) = true
-is_fault (NotPermitted live) = true
+abbrev is_fault : Option Fault → Bool
+is_fault None = false
+is_fault (Some (NoInstruction live)) = true
+is_fault (Some Quality) = true
+is_fault (Some TurnedAway) = true
+is_fault (Some (Security live)) = true
+is_fault (Some Missing) = true
+is_fault (Some (Invalid live)) = true
+is_fault (Some (NotPermitted live)) = true
 
 module _ (r : Record) (p : ServicePrimitive) (a : UserData) (d : Out) where
   -- what is done about a fault, whatever the instruction is
-  fault_does : (f : Fault) → is_fault f ≡ true → outcome_of r (service_parameters r p a) (answer_out r.control d f) ≡ answered r p a f
+  fault_does : (f : Option Fault) → is_fault f ≡ true → outcome_of r (service_parameters r p a) (answer_out r.control d f) ≡ answered r p a f
   unfolding answered no_instruction
-  fault_does NoFault e = absurd (subst T (sym e) tt)
-  fault_does (NoInstruction live) e =
+  fault_does None e = absurd (subst T (sym e) tt)
+  fault_does (Some (NoInstruction live)) e =
       chosen (outcome_of r (service_parameters r p a)) (is_idle r.control) quiet_out (except_out live 3 3)
-      (closes r Untold) (excepts r live 3 3) (quiet_does r (service_parameters r p a))
+      (closes r None) (excepts r live 3 3) (quiet_does r (service_parameters r p a))
       (except_does r (service_parameters r p a) live 3 3)
-  fault_does Quality e = quality_does r (service_parameters r p a)
-  fault_does TurnedAway e = away_does r (service_parameters r p a)
-  fault_does (Security live) e = except_does r (service_parameters r p a) live 5 5
-  fault_does Missing e = except_does r (service_parameters r p a) true 7 8
-  fault_does (Invalid live) e = except_does r (service_parameters r p a) live 2 2
-  fault_does (NotPermitted live) e = except_does r (service_parameters r p a) live 3 3
+  fault_does (Some Quality) e = quality_does r (service_parameters r p a)
+  fault_does (Some TurnedAway) e = away_does r (service_parameters r p a)
+  fault_does (Some (Security live)) e = except_does r (service_parameters r p a) live 5 5
+  fault_does (Some Missing) e = except_does r (service_parameters r p a) true 7 8
+  fault_does (Some (Invalid live)) e = except_does r (service_parameters r p a) live 2 2
+  fault_does (Some (NotPermitted live)) e = except_does r (service_parameters r p a) live 3 3
 
 -- ---- a primitive whose PDU is to be a send
 
@@ -238,23 +239,23 @@ module _ (sd : Side) (r : Record) (p : ServicePrimitive) (q : Primitive) (live :
   send_does : (may x : Bool) (a : UserData)
       → outcome_of r (service_parameters r p a) (handed_out r.control q n.as_is n.as_is y) ≡ instructed r p a
       → outcome_of r (service_parameters r p a) (answer_out r.control (handed_out r.control q n.as_is n.as_is y) (cond
-      (not x) (NoInstruction true) (cond (eqb (send_condition may a) n.no_pdu) Missing (cond
-      (eqb (send_condition may a) n.invalid_pdu) (Invalid live)
-      (cond (eqb (send_condition may a) n.send) NoFault (NotPermitted live))))))
-      ≡ answered r p a (cond (not x) (NoInstruction true) (pdu_fault may (is_send a) live live a NoFault))
+      (not x) (Some (NoInstruction true)) (cond (eqb (send_condition may a) n.no_pdu) (Some Missing) (cond
+      (eqb (send_condition may a) n.invalid_pdu) (Some (Invalid live))
+      (cond (eqb (send_condition may a) n.send) None (Some (NotPermitted live)))))))
+      ≡ answered r p a (cond (not x) (Some (NoInstruction true)) (pdu_fault may (is_send a) live live a None))
   unfolding pdu_fault answered
-  send_does may false a h = fault_does r p a (handed_out r.control q n.as_is n.as_is y) (NoInstruction true) refl
+  send_does may false a h = fault_does r p a (handed_out r.control q n.as_is n.as_is y) (Some (NoInstruction true)) refl
   send_does true true Absent h = h
-  send_does false true Absent h = fault_does r p Absent (handed_out r.control q n.as_is n.as_is y) Missing refl
-  send_does may true NotValid h = fault_does r p NotValid (handed_out r.control q n.as_is n.as_is y) (Invalid live) refl
-  send_does may true (Start m) h = fault_does r p (Start m) (handed_out r.control q n.as_is n.as_is y) (NotPermitted live) refl
+  send_does false true Absent h = fault_does r p Absent (handed_out r.control q n.as_is n.as_is y) (Some Missing) refl
+  send_does may true NotValid h = fault_does r p NotValid (handed_out r.control q n.as_is n.as_is y) (Some (Invalid live)) refl
+  send_does may true (Start m) h = fault_does r p (Start m) (handed_out r.control q n.as_is n.as_is y) (Some (NotPermitted live)) refl
   send_does may true Send h = h
-  send_does may true (AbortUser w) h = fault_does r p (AbortUser w) (handed_out r.control q n.as_is n.as_is y) (NotPermitted live) refl
+  send_does may true (AbortUser w) h = fault_does r p (AbortUser w) (handed_out r.control q n.as_is n.as_is y) (Some (NotPermitted live)) refl
   send_does may true (AbortProvider w) h = fault_does r p (AbortProvider w) (handed_out r.control q n.as_is n.as_is y)
-      (NotPermitted live) refl
-  send_does may true pdu.Forward h = fault_does r p pdu.Forward (handed_out r.control q n.as_is n.as_is y) (NotPermitted live) refl
+      (Some (NotPermitted live)) refl
+  send_does may true pdu.Forward h = fault_does r p pdu.Forward (handed_out r.control q n.as_is n.as_is y) (Some (NotPermitted live)) refl
   send_does may true (ForwardResponse w) h = fault_does r p (ForwardResponse w)
-      (handed_out r.control q n.as_is n.as_is y) (NotPermitted live) refl
+      (handed_out r.control q n.as_is n.as_is y) (Some (NotPermitted live)) refl
 
 send_among : (may : Bool) (a : UserData) → mem send_conditions (send_condition may a) ≡ true
 unfolding mem
@@ -346,12 +347,12 @@ pdu_told r p g = refl
 -- x: is it expected, f: does it fit
 abort_does : (r : Record) (o : ℕ) (a : UserData) (x f : Bool)
     → outcome_of r (service_parameters r (DAbortIndication o) a) (answer_out r.control (told_out n.abort_of_pdu 0)
-    (cond (not x) (NoInstruction false) (cond (not f) (NoInstruction false) NoFault))) ≡ answered r
-    (DAbortIndication o) a (cond (not x) (NoInstruction false) (cond (not f) (NoInstruction false) NoFault))
+    (cond (not x) (Some (NoInstruction false)) (cond (not f) (Some (NoInstruction false)) None))) ≡ answered r
+    (DAbortIndication o) a (cond (not x) (Some (NoInstruction false)) (cond (not f) (Some (NoInstruction false)) None))
 unfolding answered instructed
 abort_does r o a true true = pdu_told r (DAbortIndication o) (service_parameters r (DAbortIndication o) a)
-abort_does r o a true false = fault_does r (DAbortIndication o) a (told_out n.abort_of_pdu 0) (NoInstruction false) refl
-abort_does r o a false f = fault_does r (DAbortIndication o) a (told_out n.abort_of_pdu 0) (NoInstruction false) refl
+abort_does r o a true false = fault_does r (DAbortIndication o) a (told_out n.abort_of_pdu 0) (Some (NoInstruction false)) refl
+abort_does r o a false f = fault_does r (DAbortIndication o) a (told_out n.abort_of_pdu 0) (Some (NoInstruction false)) refl
 
 abort_same : (sd : Side) (r : Record) (o : ℕ) (a : UserData)
     → outcome_of r (service_parameters r (DAbortIndication o) a) (walk rows sd r.control n.d_abort (service_condition sd r (DAbortIndication o) a)) ≡ reached sd r (DAbortIndication o) a
@@ -361,18 +362,18 @@ abort_same sd r o a =
     (service_condition sd r (DAbortIndication o) a)
     (abort_among (eqb o user) (eqb o provider) (is_user_abort a) (is_provider_abort a)))
     ∙ ap (λ (z : Bool). outcome_of r (service_parameters r (DAbortIndication o) a) (answer_out r.control
-    (told_out n.abort_of_pdu 0) (cond (not (expects sd r.control DAbort)) (NoInstruction false)
-    (cond z (NoInstruction false) NoFault))))
+    (told_out n.abort_of_pdu 0) (cond (not (expects sd r.control DAbort)) (Some (NoInstruction false))
+    (cond z (Some (NoInstruction false)) None))))
     (abort_other (eqb o user) (eqb o provider) (is_user_abort a) (is_provider_abort a))
     ∙ abort_does r o a (expects sd r.control DAbort) (abort_fits o a)
 
 failing_does : (r : Record) (a : UserData) (x : Bool)
     → outcome_of r (service_parameters r DPAbortIndication a)
-    (answer_out r.control (told_out n.abort_for 5) (cond (not x) (NoInstruction false) NoFault)) ≡ answered r
-    DPAbortIndication a (cond (not x) (NoInstruction false) (cond (not true) (NoInstruction false) NoFault))
+    (answer_out r.control (told_out n.abort_for 5) (cond (not x) (Some (NoInstruction false)) None)) ≡ answered r
+    DPAbortIndication a (cond (not x) (Some (NoInstruction false)) (cond (not true) (Some (NoInstruction false)) None))
 unfolding answered instructed outcome_of closes tell enter
 failing_does r a true = refl
-failing_does r a false = fault_does r DPAbortIndication a (told_out n.abort_for 5) (NoInstruction false) refl
+failing_does r a false = fault_does r DPAbortIndication a (told_out n.abort_for 5) (Some (NoInstruction false)) refl
 
 failing_same : (sd : Side) (r : Record) (a : UserData)
     → outcome_of r (service_parameters r DPAbortIndication a) (walk rows sd r.control n.d_pabort n.plain) ≡ reached sd r DPAbortIndication a
@@ -432,10 +433,10 @@ indication_good sd r x s v q a = good_cond sd (not (qos_fits q)) _ _ (quality_go
 
 module _ (r : Record) (x s v : ℕ) (q : Qos) where
   -- the rest of its fault at an IDLE record
-  abbrev rest : Side → UserData → Bool → Fault
+  abbrev rest : Side → UserData → Bool → Option Fault
   rest sd a i = pdu_fault false
       (cond (from_centre sd x) (is_forward a) (is_start_pdu a && (i && may_start (other sd) (mode_of a)))) true true a
-      (cond (peer_fits sd x) NoFault (NoInstruction true))
+      (cond (peer_fits sd x) None (Some (NoInstruction true)))
 
   abbrev does : Side → ℕ → UserData → Outcome
   does sd k a = outcome_of r (service_parameters r (DStartIndication x s q v) a)
@@ -451,58 +452,58 @@ module _ (r : Record) (x s v : ℕ) (q : Qos) where
 
   arrives_does : (w e : Bool)
       → outcome_of r (service_parameters r (DStartIndication x s q v) pdu.Forward) (start_instruction r.control (cond (not w) n.unsupported_forward (cond e n.equal_forward n.other_forward)))
-      ≡ cond (not w) (responds r 1 s 0 Untold) (cond e (responds r 0 s 0 ForwardIndication) (responds r 2 s r.version Untold))
+      ≡ cond (not w) (responds r 1 s 0 None) (cond e (responds r 0 s 0 (Some ForwardIndication)) (responds r 2 s r.version None))
   unfolding outcome_of responds enter
   arrives_does true true = refl
   arrives_does true false = refl
   arrives_does false e = refl
 
   centre_does : (w e : Bool) → does Ground (cond (not w) n.unsupported_forward (cond e n.equal_forward n.other_forward)) pdu.Forward
-      ≡ cond (not w) (responds r 1 s 0 Untold) (cond e (responds r 0 s 0 ForwardIndication) (responds r 2 s r.version Untold))
+      ≡ cond (not w) (responds r 1 s 0 None) (cond e (responds r 0 s 0 (Some ForwardIndication)) (responds r 2 s r.version None))
   centre_does true true = arrives_does true true
   centre_does true false = arrives_does true false
   centre_does false e = arrives_does false e
 
-  other_does : (sd : Side) (a : UserData) (k : ℕ) (f : Fault) → start_fault sd k ≡ f → is_fault f ≡ true
+  other_does : (sd : Side) (a : UserData) (k : ℕ) (f : Option Fault) → start_fault sd k ≡ f → is_fault f ≡ true
       → does sd k a ≡ answered r (DStartIndication x s q v) a f
-  other_does sd a k f e t = ap (λ (g : Fault). outcome_of r (service_parameters r (DStartIndication x s q v) a)
+  other_does sd a k f e t = ap (λ (g : Option Fault). outcome_of r (service_parameters r (DStartIndication x s q v) a)
       (answer_out r.control (start_instruction r.control k) g)) e ∙ fault_does r (DStartIndication x s q v) a
       (start_instruction r.control k) f t
 
   air_does : (a : UserData)
       → does Air (pdu_first false a (start_condition Air r x v a)) a ≡ answered r (DStartIndication x s q v) a (rest Air a true)
   unfolding pdu_fault answered
-  air_does Absent = other_does Air Absent n.no_pdu Missing refl refl
-  air_does NotValid = other_does Air NotValid n.invalid_pdu (Invalid true) refl refl
-  air_does (Start true) = other_does Air (Start true) n.dsc_start (NotPermitted true) refl refl
+  air_does Absent = other_does Air Absent n.no_pdu (Some Missing) refl refl
+  air_does NotValid = other_does Air NotValid n.invalid_pdu (Some (Invalid true)) refl refl
+  air_does (Start true) = other_does Air (Start true) n.dsc_start (Some (NotPermitted true)) refl refl
   air_does (Start false) = go (eqb x 0)
     where
       go : (b : Bool)
-          → does Air (cond b n.start n.start_of_aircraft) (Start false) ≡ answered r (DStartIndication x s q v) (Start false) (cond b NoFault (NoInstruction true))
+          → does Air (cond b n.start n.start_of_aircraft) (Start false) ≡ answered r (DStartIndication x s q v) (Start false) (cond b None (Some (NoInstruction true)))
       go true = invited_does (Start false) false
-      go false = other_does Air (Start false) n.start_of_aircraft (NoInstruction true) refl refl
-  air_does Send = other_does Air Send n.other_pdu (NotPermitted true) refl refl
-  air_does (AbortUser w) = other_does Air (AbortUser w) n.other_pdu (NotPermitted true) refl refl
-  air_does (AbortProvider w) = other_does Air (AbortProvider w) n.other_pdu (NotPermitted true) refl refl
-  air_does pdu.Forward = other_does Air pdu.Forward n.other_pdu (NotPermitted true) refl refl
-  air_does (ForwardResponse w) = other_does Air (ForwardResponse w) n.other_pdu (NotPermitted true) refl refl
+      go false = other_does Air (Start false) n.start_of_aircraft (Some (NoInstruction true)) refl refl
+  air_does Send = other_does Air Send n.other_pdu (Some (NotPermitted true)) refl refl
+  air_does (AbortUser w) = other_does Air (AbortUser w) n.other_pdu (Some (NotPermitted true)) refl refl
+  air_does (AbortProvider w) = other_does Air (AbortProvider w) n.other_pdu (Some (NotPermitted true)) refl refl
+  air_does pdu.Forward = other_does Air pdu.Forward n.other_pdu (Some (NotPermitted true)) refl refl
+  air_does (ForwardResponse w) = other_does Air (ForwardResponse w) n.other_pdu (Some (NotPermitted true)) refl refl
 
   -- a PDU that is none of a start and a forward
   neither : (a : UserData) (b : Bool)
-      → does Ground (cond b n.other_pdu n.other_pdu) a ≡ answered r (DStartIndication x s q v) a (cond (not (cond b false false)) (NotPermitted true) NoFault)
-  neither a true = other_does Ground a n.other_pdu (NotPermitted true) refl refl
-  neither a false = other_does Ground a n.other_pdu (NotPermitted true) refl refl
+      → does Ground (cond b n.other_pdu n.other_pdu) a ≡ answered r (DStartIndication x s q v) a (cond (not (cond b false false)) (Some (NotPermitted true)) None)
+  neither a true = other_does Ground a n.other_pdu (Some (NotPermitted true)) refl refl
+  neither a false = other_does Ground a n.other_pdu (Some (NotPermitted true)) refl refl
 
   ground_does : (a : UserData)
       → does Ground (pdu_first false a (start_condition Ground r x v a)) a ≡ answered r (DStartIndication x s q v) a (rest Ground a true)
   unfolding pdu_fault answered instructed forward_arrives
-  ground_does Absent = other_does Ground Absent n.no_pdu Missing refl refl
-  ground_does NotValid = other_does Ground NotValid n.invalid_pdu (Invalid true) refl refl
+  ground_does Absent = other_does Ground Absent n.no_pdu (Some Missing) refl refl
+  ground_does NotValid = other_does Ground NotValid n.invalid_pdu (Some (Invalid true)) refl refl
   ground_does (Start d) = go (eqb x 0) d
     where
       go : (b d : Bool)
-          → does Ground (cond b n.other_pdu (cond d n.dsc_start n.start)) (Start d) ≡ answered r (DStartIndication x s q v) (Start d) (cond (not (cond b false true)) (NotPermitted true) NoFault)
-      go true d = other_does Ground (Start d) n.other_pdu (NotPermitted true) refl refl
+          → does Ground (cond b n.other_pdu (cond d n.dsc_start n.start)) (Start d) ≡ answered r (DStartIndication x s q v) (Start d) (cond (not (cond b false true)) (Some (NotPermitted true)) None)
+      go true d = other_does Ground (Start d) n.other_pdu (Some (NotPermitted true)) refl refl
       go false true = invited_does (Start true) true
       go false false = invited_does (Start false) false
   ground_does Send = neither Send (eqb x 0)
@@ -511,9 +512,9 @@ module _ (r : Record) (x s v : ℕ) (q : Qos) where
   ground_does pdu.Forward = go (eqb x 0)
     where
       go : (b : Bool)
-          → does Ground (cond b (cond (not r.forwards) n.unsupported_forward (cond (eqb v r.version) n.equal_forward n.other_forward)) n.other_pdu) pdu.Forward ≡ answered r (DStartIndication x s q v) pdu.Forward (cond (not (cond b true false)) (NotPermitted true) NoFault)
+          → does Ground (cond b (cond (not r.forwards) n.unsupported_forward (cond (eqb v r.version) n.equal_forward n.other_forward)) n.other_pdu) pdu.Forward ≡ answered r (DStartIndication x s q v) pdu.Forward (cond (not (cond b true false)) (Some (NotPermitted true)) None)
       go true = centre_does r.forwards (eqb v r.version)
-      go false = other_does Ground pdu.Forward n.other_pdu (NotPermitted true) refl refl
+      go false = other_does Ground pdu.Forward n.other_pdu (Some (NotPermitted true)) refl refl
   ground_does (ForwardResponse w) = neither (ForwardResponse w) (eqb x 0)
 
   either_does : (sd : Side) (a : UserData)
@@ -526,15 +527,15 @@ module _ (r : Record) (x s v : ℕ) (q : Qos) where
       → outcome_of r (service_parameters r (DStartIndication x s q v) a) (answer_out r.control (start_instruction
       r.control
       (cond (not m) n.wrong_quality (cond l n.wrong_security (pdu_first false a (start_condition sd r x v a))))) (
-      cond (not i) (NoInstruction true) (start_fault sd (cond (not m) n.wrong_quality
+      cond (not i) (Some (NoInstruction true)) (start_fault sd (cond (not m) n.wrong_quality
       (cond l n.wrong_security (pdu_first false a (start_condition sd r x v a)))))))
       ≡ answered r (DStartIndication x s q v) a
-      (cond (not i) (NoInstruction true) (cond (not m) Quality (cond l (Security true) (rest sd a i))))
+      (cond (not i) (Some (NoInstruction true)) (cond (not m) (Some Quality) (cond l (Some (Security true)) (rest sd a i))))
   outer sd a false m l = fault_does r (DStartIndication x s q v) a (start_instruction r.control
       (cond (not m) n.wrong_quality (cond l n.wrong_security (pdu_first false a (start_condition sd r x v a)))))
-      (NoInstruction true) refl
-  outer sd a true false l = fault_does r (DStartIndication x s q v) a (start_instruction r.control n.wrong_quality) Quality refl
-  outer sd a true true true = fault_does r (DStartIndication x s q v) a (start_instruction r.control n.wrong_security) (Security true) refl
+      (Some (NoInstruction true)) refl
+  outer sd a true false l = fault_does r (DStartIndication x s q v) a (start_instruction r.control n.wrong_quality) (Some Quality) refl
+  outer sd a true true true = fault_does r (DStartIndication x s q v) a (start_instruction r.control n.wrong_security) (Some (Security true)) refl
   outer sd a true true false = either_does sd a
 
   indication_same : (sd : Side) (a : UserData)
@@ -572,18 +573,18 @@ abbrev forward_over : Out
 forward_over = out closed n.no n.no n.nothing n.taken n.silent 0 n.forward_confirmation 0
 
 -- its response's fault in FORWARD; b: accepted
-abbrev responding : Bool → UserData → Fault
-responding b a = cond b (pdu_fault false false true true a NoFault) (pdu_fault false (is_response a) false true a NoFault)
+abbrev responding : Bool → UserData → Option Fault
+responding b a = cond b (pdu_fault false false true true a None) (pdu_fault false (is_response a) false true a None)
 
 module _ (r : Record) (x o s v : ℕ) (a : UserData) where
   abbrev here : ServicePrimitive
   here = DStartConfirmation x o s v
 
-  abbrev does_at : Reply → ℕ → Fault → Outcome
+  abbrev does_at : Reply → ℕ → Option Fault → Outcome
   does_at b k f = outcome_of r (service_parameters r here a) (answer_out r.control
       (cond (eqb k n.response) forward_over (handed_out r.control (DStartCnf b) n.no n.as_is n.start_confirmation)) f)
 
-  fails_at : (b : Reply) (k : ℕ) (f : Fault) → is_fault f ≡ true → does_at b k f ≡ answered r here a f
+  fails_at : (b : Reply) (k : ℕ) (f : Option Fault) → is_fault f ≡ true → does_at b k f ≡ answered r here a f
   fails_at b k f t = fault_does r here a
       (cond (eqb k n.response) forward_over (handed_out r.control (DStartCnf b) n.no n.as_is n.start_confirmation)) f t
 
@@ -608,43 +609,43 @@ not_allowed false live = refl
 
 -- a start's confirmation whose PDU decides; m: may there be none
 sent_back : (r : Record) (x o s v : ℕ) (m : Bool) (b : Reply) (a : UserData) → reply_of x ≡ b
-    → does_at r x o s v a b (answer_condition m (is_accepted b) a) (confirmed_fault b (answer_condition m (is_accepted b) a)) ≡ answered r (DStartConfirmation x o s v) a (pdu_fault m (send_allowed m (is_accepted b) a) (is_accepted b) true a NoFault)
+    → does_at r x o s v a b (answer_condition m (is_accepted b) a) (confirmed_fault b (answer_condition m (is_accepted b) a)) ≡ answered r (DStartConfirmation x o s v) a (pdu_fault m (send_allowed m (is_accepted b) a) (is_accepted b) true a None)
 unfolding pdu_fault answered
 sent_back r x o s v true b Absent e = confirmed_does r x o s v b Absent refl e
-sent_back r x o s v false b Absent e = fails_at r x o s v Absent b n.no_pdu Missing refl
-sent_back r x o s v m b NotValid e = fails_at r x o s v NotValid b n.invalid_pdu (Invalid (is_accepted b)) refl
-sent_back r x o s v m b (Start d) e = rw (not_allowed m (is_accepted b)) (fails_at r x o s v (Start d) b n.other_pdu (NotPermitted true) refl)
-sent_back r x o s v true Accepted Send e = fails_at r x o s v Send Accepted n.other_pdu (NotPermitted true) refl
+sent_back r x o s v false b Absent e = fails_at r x o s v Absent b n.no_pdu (Some Missing) refl
+sent_back r x o s v m b NotValid e = fails_at r x o s v NotValid b n.invalid_pdu (Some (Invalid (is_accepted b))) refl
+sent_back r x o s v m b (Start d) e = rw (not_allowed m (is_accepted b)) (fails_at r x o s v (Start d) b n.other_pdu (Some (NotPermitted true)) refl)
+sent_back r x o s v true Accepted Send e = fails_at r x o s v Send Accepted n.other_pdu (Some (NotPermitted true)) refl
 sent_back r x o s v true Rejected Send e = confirmed_does r x o s v Rejected Send refl e
 sent_back r x o s v false b Send e = confirmed_does r x o s v b Send refl e
 sent_back r x o s v m b (AbortUser w) e = rw (not_allowed m (is_accepted b))
-    (fails_at r x o s v (AbortUser w) b n.other_pdu (NotPermitted true) refl)
+    (fails_at r x o s v (AbortUser w) b n.other_pdu (Some (NotPermitted true)) refl)
 sent_back r x o s v m b (AbortProvider w) e = rw (not_allowed m (is_accepted b))
-    (fails_at r x o s v (AbortProvider w) b n.other_pdu (NotPermitted true) refl)
+    (fails_at r x o s v (AbortProvider w) b n.other_pdu (Some (NotPermitted true)) refl)
 sent_back r x o s v m b pdu.Forward e = rw (not_allowed m (is_accepted b))
-    (fails_at r x o s v pdu.Forward b n.other_pdu (NotPermitted true) refl)
+    (fails_at r x o s v pdu.Forward b n.other_pdu (Some (NotPermitted true)) refl)
 sent_back r x o s v m b (ForwardResponse w) e = rw (not_allowed m (is_accepted b))
-    (fails_at r x o s v (ForwardResponse w) b n.response (NotPermitted true) refl)
+    (fails_at r x o s v (ForwardResponse w) b n.response (Some (NotPermitted true)) refl)
 
 -- and a forward's
 came_back : (r : Record) (x o s v : ℕ) (b : Reply) (a : UserData)
     → does_at r x o s v a b (answer_condition false (is_accepted b) a) (responded_fault b (answer_condition false (is_accepted b) a)) ≡ answered r (DStartConfirmation x o s v) a (responding (is_accepted b) a)
 unfolding pdu_fault answered
-came_back r x o s v Accepted Absent = fails_at r x o s v Absent Accepted n.no_pdu Missing refl
-came_back r x o s v Accepted NotValid = fails_at r x o s v NotValid Accepted n.invalid_pdu (Invalid true) refl
-came_back r x o s v Accepted (Start m) = fails_at r x o s v (Start m) Accepted n.other_pdu (NotPermitted true) refl
-came_back r x o s v Accepted Send = fails_at r x o s v Send Accepted n.send (NotPermitted true) refl
-came_back r x o s v Accepted (AbortUser w) = fails_at r x o s v (AbortUser w) Accepted n.other_pdu (NotPermitted true) refl
-came_back r x o s v Accepted (AbortProvider w) = fails_at r x o s v (AbortProvider w) Accepted n.other_pdu (NotPermitted true) refl
-came_back r x o s v Accepted pdu.Forward = fails_at r x o s v pdu.Forward Accepted n.other_pdu (NotPermitted true) refl
-came_back r x o s v Accepted (ForwardResponse w) = fails_at r x o s v (ForwardResponse w) Accepted n.response (NotPermitted true) refl
-came_back r x o s v Rejected Absent = fails_at r x o s v Absent Rejected n.no_pdu Missing refl
-came_back r x o s v Rejected NotValid = fails_at r x o s v NotValid Rejected n.invalid_pdu (Invalid false) refl
-came_back r x o s v Rejected (Start m) = fails_at r x o s v (Start m) Rejected n.other_pdu (NotPermitted true) refl
-came_back r x o s v Rejected Send = fails_at r x o s v Send Rejected n.send (NotPermitted true) refl
-came_back r x o s v Rejected (AbortUser w) = fails_at r x o s v (AbortUser w) Rejected n.other_pdu (NotPermitted true) refl
-came_back r x o s v Rejected (AbortProvider w) = fails_at r x o s v (AbortProvider w) Rejected n.other_pdu (NotPermitted true) refl
-came_back r x o s v Rejected pdu.Forward = fails_at r x o s v pdu.Forward Rejected n.other_pdu (NotPermitted true) refl
+came_back r x o s v Accepted Absent = fails_at r x o s v Absent Accepted n.no_pdu (Some Missing) refl
+came_back r x o s v Accepted NotValid = fails_at r x o s v NotValid Accepted n.invalid_pdu (Some (Invalid true)) refl
+came_back r x o s v Accepted (Start m) = fails_at r x o s v (Start m) Accepted n.other_pdu (Some (NotPermitted true)) refl
+came_back r x o s v Accepted Send = fails_at r x o s v Send Accepted n.send (Some (NotPermitted true)) refl
+came_back r x o s v Accepted (AbortUser w) = fails_at r x o s v (AbortUser w) Accepted n.other_pdu (Some (NotPermitted true)) refl
+came_back r x o s v Accepted (AbortProvider w) = fails_at r x o s v (AbortProvider w) Accepted n.other_pdu (Some (NotPermitted true)) refl
+came_back r x o s v Accepted pdu.Forward = fails_at r x o s v pdu.Forward Accepted n.other_pdu (Some (NotPermitted true)) refl
+came_back r x o s v Accepted (ForwardResponse w) = fails_at r x o s v (ForwardResponse w) Accepted n.response (Some (NotPermitted true)) refl
+came_back r x o s v Rejected Absent = fails_at r x o s v Absent Rejected n.no_pdu (Some Missing) refl
+came_back r x o s v Rejected NotValid = fails_at r x o s v NotValid Rejected n.invalid_pdu (Some (Invalid false)) refl
+came_back r x o s v Rejected (Start m) = fails_at r x o s v (Start m) Rejected n.other_pdu (Some (NotPermitted true)) refl
+came_back r x o s v Rejected Send = fails_at r x o s v Send Rejected n.send (Some (NotPermitted true)) refl
+came_back r x o s v Rejected (AbortUser w) = fails_at r x o s v (AbortUser w) Rejected n.other_pdu (Some (NotPermitted true)) refl
+came_back r x o s v Rejected (AbortProvider w) = fails_at r x o s v (AbortProvider w) Rejected n.other_pdu (Some (NotPermitted true)) refl
+came_back r x o s v Rejected pdu.Forward = fails_at r x o s v pdu.Forward Rejected n.other_pdu (Some (NotPermitted true)) refl
 came_back r x o s v Rejected (ForwardResponse w) = forward_over_is r x o s v w
 
 -- START-REQ is not FORWARD
@@ -661,21 +662,21 @@ confirmation_does : (r : Record) (x o s v : ℕ) (b : Reply) (a : UserData) (e w
     → does_at r x o s v a b (cond t n.turned_away (cond l n.wrong_security (condition w m (is_accepted b) a))) (cond
     (not e) (cond w
     (responded_fault b (cond t n.turned_away (cond l n.wrong_security (condition w m (is_accepted b) a))))
-    (NoInstruction true))
+    (Some (NoInstruction true)))
     (confirmed_fault b (cond t n.turned_away (cond l n.wrong_security (condition w m (is_accepted b) a)))))
     ≡ answered r (DStartConfirmation x o s v) a (cond (not e) (cond w
-    (cond t TurnedAway (cond l (Security (is_accepted b)) (responding (is_accepted b) a)))
-    (NoInstruction true)) (cond t TurnedAway (cond l (Security (is_accepted b))
-    (pdu_fault m (send_allowed m (is_accepted b) a) (is_accepted b) true a NoFault))))
+    (cond t (Some TurnedAway) (cond l (Some (Security (is_accepted b))) (responding (is_accepted b) a)))
+    (Some (NoInstruction true))) (cond t (Some TurnedAway) (cond l (Some (Security (is_accepted b)))
+    (pdu_fault m (send_allowed m (is_accepted b) a) (is_accepted b) true a None))))
 confirmation_does r x o s v b a true true t l m h y = absurd (subst T (y refl) tt)
-confirmation_does r x o s v b a true false true l m h y = fails_at r x o s v a b n.turned_away TurnedAway refl
-confirmation_does r x o s v b a true false false true m h y = fails_at r x o s v a b n.wrong_security (Security (is_accepted b)) refl
+confirmation_does r x o s v b a true false true l m h y = fails_at r x o s v a b n.turned_away (Some TurnedAway) refl
+confirmation_does r x o s v b a true false false true m h y = fails_at r x o s v a b n.wrong_security (Some (Security (is_accepted b))) refl
 confirmation_does r x o s v b a true false false false m h y = sent_back r x o s v m b a h
-confirmation_does r x o s v b a false true true l m h y = fails_at r x o s v a b n.turned_away TurnedAway refl
-confirmation_does r x o s v b a false true false true m h y = fails_at r x o s v a b n.wrong_security (Security (is_accepted b)) refl
+confirmation_does r x o s v b a false true true l m h y = fails_at r x o s v a b n.turned_away (Some TurnedAway) refl
+confirmation_does r x o s v b a false true false true m h y = fails_at r x o s v a b n.wrong_security (Some (Security (is_accepted b))) refl
 confirmation_does r x o s v b a false true false false m h y = came_back r x o s v b a
 confirmation_does r x o s v b a false false t l m h y = fails_at r x o s v a b
-    (cond t n.turned_away (cond l n.wrong_security (answer_condition m (is_accepted b) a))) (NoInstruction true) refl
+    (cond t n.turned_away (cond l n.wrong_security (answer_condition m (is_accepted b) a))) (Some (NoInstruction true)) refl
 
 confirmation_same : (sd : Side) (r : Record) (x o s v : ℕ) (a : UserData) (b : Bool) → eqb x accepted ≡ b
     → outcome_of r (service_parameters r (DStartConfirmation x o s v) a) (walk rows sd r.control
@@ -720,7 +721,7 @@ service_same sd r (DAbortIndication o) a = abort_same sd r o a
 service_same sd r DPAbortIndication a = failing_same sd r a
 
 expiry_same : (sd : Side) (r : Record) (g : Parameters) (t : Bool)
-    → outcome_of r g (walk rows sd r.control n.expiry (cond t n.plain n.timer_stopped)) ≡ cond (is_none (cond (not t) Prohibited None)) (timer_expires r) (refused (cond (not t) Prohibited None) r)
+    → outcome_of r g (walk rows sd r.control n.expiry (cond t n.plain n.timer_stopped)) ≡ cond (is_none (cond (not t) (Some Prohibited) None)) (timer_expires r) (refused (cond (not t) (Some Prohibited) None) r)
 unfolding timer_expires
 expiry_same sd r g true = alike_does r g (walk rows sd r.control n.expiry n.plain) (except_out true 0 0)
     (expiry_alike sd r.control) ∙ except_does r g true 0 0
@@ -731,7 +732,7 @@ error_same : (sd : Side) (r : Record) (g : Parameters) → outcome_of r g (walk 
 unfolding system_error
 error_same sd r g =
     alike_does r g (walk rows sd r.control n.system_error n.plain) (fail_wanted r.control) (error_alike sd r.control)
-    ∙ chosen (outcome_of r g) (is_idle r.control) quiet_out (except_out true 1 1) (closes r Untold) (excepts r true 1 1)
+    ∙ chosen (outcome_of r g) (is_idle r.control) quiet_out (except_out true 1 1) (closes r None) (excepts r true 1 1)
     (quiet_does r g) (except_does r g true 1 1)
 
 pub fitting_same : (sd : Side) (r : Record) (e : Event) → outcome_of r (parameters_of r e) (row_of sd r e) ≡ step_fitting sd r e
@@ -748,7 +749,7 @@ unfolding rows_step
 rows_same sd r e = go (event_fits sd r.edition e) refl
   where
     go : (b : Bool) → event_fits sd r.edition e ≡ b
-        → cond (not b) (refused Shape r) (outcome_of r (parameters_of r e) (row_of sd r e)) ≡ step sd r e
+        → cond (not b) (refused (Some Shape) r) (outcome_of r (parameters_of r e) (row_of sd r e)) ≡ step sd r e
     go true f = fitting_same sd r e ∙ sym (step_of_fitting sd r e f)
     go false f = sym (step_shape sd r e f)
 
@@ -758,7 +759,7 @@ unfolding rows_numbered
 rows_numbered_is sd r m e v = go (event_fits sd r.edition e) refl (is_stale m e v) refl
   where
     go : (b : Bool) → event_fits sd r.edition e ≡ b → (l : Bool) → is_stale m e v ≡ l
-        → cond (not b) (refused Shape r) (cond l (refused Stale r) (outcome_of r (parameters_of r e) (row_of sd r e))) ≡ numbered_step sd r m e v
+        → cond (not b) (refused (Some Shape) r) (cond l (refused (Some Stale) r) (outcome_of r (parameters_of r e) (row_of sd r e))) ≡ numbered_step sd r m e v
     go true f true l = sym (then_stale sd r m e v f l)
     go true f false l = fitting_same sd r e ∙ sym (then_fitting sd r m e v f l)
     go false f l h = sym (shape_first sd r m e v f)

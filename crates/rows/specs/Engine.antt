@@ -1,5 +1,5 @@
 -- The engine: the first row that fits, and what its columns say is done.
-use Rattle.std.specs.Prelude.{ℕ, Bool, true, false, not, cond, ◌&&◌, ◌||◌, List, [], ◌∷◌, eqb, ltb, leb}
+use Rattle.std.specs.Prelude.{ℕ, Bool, true, false, not, cond, ◌&&◌, ◌||◌, List, [], ◌∷◌, eqb, ltb, leb, None, Option, Some}
 use Rattle.control.specs.Control.{number, entered}
 use Rattle.control.specs.declared.Side.{Side}
 use Rattle.control.specs.declared.Side.TheVariants.{Air, Ground}
@@ -17,11 +17,11 @@ use Rattle.machine.specs.declared.event.UserData.TheVariants as pdu
 use Rattle.machine.specs.declared.event.Qos.{Qos}
 use Rattle.machine.specs.declared.event.Event.{Event}
 use Rattle.machine.specs.declared.outcome.StepRefusal.{StepRefusal}
-use Rattle.machine.specs.declared.outcome.StepRefusal.TheVariants.{None, Shape, Stale, Prohibited, NoMessage, Repeat}
+use Rattle.machine.specs.declared.outcome.StepRefusal.TheVariants.{Shape, Stale, Prohibited, NoMessage, Repeat}
 use Rattle.machine.specs.declared.outcome.Invoked.{Invoked}
-use Rattle.machine.specs.declared.outcome.Invoked.TheVariants.{Silent, DStartRequest, DStartResponse, DDataRequest, DEndRequest, DEndResponse, DAbortRequest, DStartForwardRequest, DStartForwardResponse}
+use Rattle.machine.specs.declared.outcome.Invoked.TheVariants.{DStartRequest, DStartResponse, DDataRequest, DEndRequest, DEndResponse, DAbortRequest, DStartForwardRequest, DStartForwardResponse}
 use Rattle.machine.specs.declared.outcome.Told.{Told}
-use Rattle.machine.specs.declared.outcome.Told.TheVariants.{Untold, StartIndication, StartConfirmation, MessageIndication, EndIndication, EndConfirmation, UserAbortIndication, ProviderAbortIndication, ForwardIndication, ForwardConfirmation}
+use Rattle.machine.specs.declared.outcome.Told.TheVariants.{StartIndication, StartConfirmation, MessageIndication, EndIndication, EndConfirmation, UserAbortIndication, ProviderAbortIndication, ForwardIndication, ForwardConfirmation}
 use Rattle.machine.specs.declared.outcome.Outcome.{Outcome}
 use Rattle.numbered.specs.Numbers.{is_stale}
 use Rattle.rows.specs.Names as n
@@ -95,26 +95,26 @@ next_of r g o =
       edition = r.edition;
     }
 
-abbrev pub refusal_is : ℕ → StepRefusal
-refusal_is x = cond (eqb x n.taken) None (cond (eqb x n.prohibited) Prohibited (cond (eqb x n.without_message) NoMessage Repeat))
+abbrev pub refusal_is : ℕ → Option StepRefusal
+refusal_is x = cond (eqb x n.taken) None (cond (eqb x n.prohibited) (Some Prohibited) (cond (eqb x n.without_message) (Some NoMessage) (Some Repeat)))
 
 -- the quality of service that 2.3.6.2.2 asks for
 abbrev pub quality : ℕ → Qos
 quality k = record { priority = high_priority; rer = low_error_rate; routing = k }
 
-abbrev pub invokes : Record → Parameters → ℕ → Invoked
+abbrev pub invokes : Record → Parameters → ℕ → Option Invoked
 invokes r g x =
-    cond (eqb x n.silent) Silent
-    (cond (eqb x n.start_out) (DStartRequest (quality g.class) g.security)
-    (cond (eqb x n.dsc_start_out) (DStartRequest (quality g.class) g.security)
-    (cond (eqb x n.start_answer) (DStartResponse g.result g.security)
-    (cond (eqb x n.data_out) DDataRequest
-    (cond (eqb x n.end_out) DEndRequest
-    (cond (eqb x n.end_answer) (DEndResponse g.result)
-    (cond (eqb x n.abort_by_user) (DAbortRequest user)
-    (cond (eqb x n.abort_by_provider) (DAbortRequest provider)
-    (cond (eqb x n.forward_out) (DStartForwardRequest (quality g.class) g.security r.version)
-    (cond (eqb x n.forward_answer) (DStartForwardResponse g.security no_version) (DStartForwardResponse g.security r.version)))))))))))
+    cond (eqb x n.silent) None
+    (cond (eqb x n.start_out) (Some (DStartRequest (quality g.class) g.security))
+    (cond (eqb x n.dsc_start_out) (Some (DStartRequest (quality g.class) g.security))
+    (cond (eqb x n.start_answer) (Some (DStartResponse g.result g.security))
+    (cond (eqb x n.data_out) (Some DDataRequest)
+    (cond (eqb x n.end_out) (Some DEndRequest)
+    (cond (eqb x n.end_answer) (Some (DEndResponse g.result))
+    (cond (eqb x n.abort_by_user) (Some (DAbortRequest user))
+    (cond (eqb x n.abort_by_provider) (Some (DAbortRequest provider))
+    (cond (eqb x n.forward_out) (Some (DStartForwardRequest (quality g.class) g.security r.version))
+    (cond (eqb x n.forward_answer) (Some (DStartForwardResponse g.security no_version)) (Some (DStartForwardResponse g.security r.version))))))))))))
 
 abbrev pub apdu_of : Parameters → ℕ → ℕ → UserData
 apdu_of g x why =
@@ -127,25 +127,25 @@ apdu_of g x why =
     (cond (eqb x n.forward_answer) (ForwardResponse why) (cond (eqb x n.forward_answer_with_version) (ForwardResponse why) g.pdu)))))))
 
 -- "if the user is an active user"
-abbrev pub if_active : Record → Told → Told
-if_active r t = cond r.active t Untold
+abbrev pub if_active : Record → Option Told → Option Told
+if_active r t = cond r.active t None
 
 -- the abort of the PDU
-abbrev pub abort_in : UserData → Told
-abort_in a = cond (is_user_abort a) (UserAbortIndication (reason_of a)) (ProviderAbortIndication (reason_of a))
+abbrev pub abort_in : UserData → Option Told
+abort_in a = cond (is_user_abort a) (Some (UserAbortIndication (reason_of a))) (Some (ProviderAbortIndication (reason_of a)))
 
-abbrev pub indication_of : Record → Parameters → ℕ → ℕ → Told
+abbrev pub indication_of : Record → Parameters → ℕ → ℕ → Option Told
 indication_of r g x why =
-    cond (eqb x n.untold) Untold
-    (cond (eqb x n.start_indication) (StartIndication false g.class)
-    (cond (eqb x n.dsc_start_indication) (StartIndication true g.class)
-    (cond (eqb x n.start_confirmation) (StartConfirmation r.control.dsc g.result)
-    (cond (eqb x n.message_indication) MessageIndication
-    (cond (eqb x n.end_indication) (EndIndication r.control.dsc)
-    (cond (eqb x n.end_confirmation) (EndConfirmation r.control.dsc g.result)
+    cond (eqb x n.untold) None
+    (cond (eqb x n.start_indication) (Some (StartIndication false g.class))
+    (cond (eqb x n.dsc_start_indication) (Some (StartIndication true g.class))
+    (cond (eqb x n.start_confirmation) (Some (StartConfirmation r.control.dsc g.result))
+    (cond (eqb x n.message_indication) (Some MessageIndication)
+    (cond (eqb x n.end_indication) (Some (EndIndication r.control.dsc))
+    (cond (eqb x n.end_confirmation) (Some (EndConfirmation r.control.dsc g.result))
     (cond (eqb x n.abort_of_pdu) (if_active r (abort_in g.pdu))
-    (cond (eqb x n.abort_for) (if_active r (ProviderAbortIndication why))
-    (cond (eqb x n.forward_indication) ForwardIndication (ForwardConfirmation (reason_of g.pdu) g.version))))))))))
+    (cond (eqb x n.abort_for) (if_active r (Some (ProviderAbortIndication why)))
+    (cond (eqb x n.forward_indication) (Some ForwardIndication) (Some (ForwardConfirmation (reason_of g.pdu) g.version)))))))))))
 
 -- the user primitives that hand message data on
 abbrev pub hands : ℕ → Bool
@@ -161,7 +161,7 @@ unfoldable pub row_of : Side → Record → Event → Out
 row_of sd r e = walk rows sd r.control (title_of e) (condition_of sd r e)
 
 unfoldable pub rows_step : Side → Record → Event → Outcome
-rows_step sd r e = cond (not (event_fits sd r.edition e)) (refused Shape r) (outcome_of r (parameters_of r e) (row_of sd r e))
+rows_step sd r e = cond (not (event_fits sd r.edition e)) (refused (Some Shape) r) (outcome_of r (parameters_of r e) (row_of sd r e))
 
 unfoldable pub rows_numbered : Side → Record → ℕ → Event → ℕ → Outcome
-rows_numbered sd r m e v = cond (not (event_fits sd r.edition e)) (refused Shape r) (cond (is_stale m e v) (refused Stale r) (outcome_of r (parameters_of r e) (row_of sd r e)))
+rows_numbered sd r m e v = cond (not (event_fits sd r.edition e)) (refused (Some Shape) r) (cond (is_stale m e v) (refused (Some Stale) r) (outcome_of r (parameters_of r e) (row_of sd r e)))

@@ -1,12 +1,12 @@
 -- The rows as numbers.
 -- Assumes nothing.
 use mathlib.Core.Path.{◌≡◌, refl, sym, ap, ◌∙◌}
-use mathlib.Core.List.{List, [], ◌∷◌, map}
+use mathlib.Core.List.{List, map}
 use Prim.Native.Nat.{ℕ, ◌+◌, ◌*◌}
 use lib.ListN.{get_or, get_or-map}
 use Rattle.rows.specs.declared.Row.{Row}
-use Rattle.rows.specs.Table.{row, rows}
-use Rattle.rows_engine.specs.Packing.{row_of_number, row_at}
+use Rattle.rows.specs.Table.{rows}
+use Rattle.rows_engine.specs.Packing.{row_of_number}
 
 -- and the number of a row
 unfoldable pub number_of_row : Row → ℕ
@@ -22,6 +22,10 @@ numbers = map number_of_row rows
 numbers_rows : map row_of_number numbers ≡ rows
 unfolding row_of_number numbers number_of_row rows
 numbers_rows = refl
+
+-- a row by its place
+unfoldable pub row_at : ℕ → Row
+row_at i = get_or rows i (row_of_number 0)
 
 pub number_row : (i : ℕ) → row_of_number (get_or numbers i 0) ≡ row_at i
 unfolding row_at row_of_number

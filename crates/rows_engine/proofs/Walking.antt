@@ -1,75 +1,18 @@
--- Laws of a row's test, one for each way out of it, and of the walk.
+-- Laws of the walk.
 -- Assumes nothing.
 use mathlib.Core.Path.{◌≡◌, refl, ap, sym, ◌∙◌}
-use mathlib.Core.Bool.{Bool, true, false, not, cond, ◌&&◌}
+use mathlib.Core.Bool.{Bool, true, false, cond}
 use mathlib.Core.List.{List, [], ◌∷◌}
 use Prim.Native.Nat.{ℕ, zero, suc, ◌+◌, ◌<◌, ◌≤◌}
 use native.Mathlib.Omega.{arith}
-use borrow.Author.Tests.{not-true, not-false}
 use lib.ListN.{length, get_or, drop}
-use Rattle.control.specs.Control.{number}
 use Rattle.control.specs.declared.Side.{Side}
 use Rattle.control.specs.declared.Control.{Control}
-use Rattle.rows.specs.declared.Out.{Out}
 use Rattle.rows.specs.declared.Row.{Row}
 use Rattle.rows.specs.Table.{nothing_done, rows}
-use Rattle.rows.specs.Engine.{side_fits, title_fits, number_fits, flag_fits, condition_fits, fits, walk}
-use Rattle.rows_engine.specs.Packing.{row_of_number, row_at}
-
-module _ (x : Row) (sd : Side) (c : Control) (t k : ℕ) where
-  pub no_title : (a : Bool) → a ≡ title_fits x.event t → not a ≡ true → false ≡ fits x sd c t k
-  unfolding fits
-  no_title a e n = ap (λ (b : Bool). b && (number_fits x.state (number c.state) &&
-      (side_fits x.side sd && (flag_fits x.dsc c.dsc && condition_fits x.condition k))))
-      (sym (not-true a n) ∙ e)
-
-  -- the title fits
-  with_title : (a : Bool) → a ≡ title_fits x.event t → not a ≡ false
-      → (number_fits x.state (number c.state) && (side_fits x.side sd && (flag_fits x.dsc c.dsc && condition_fits x.condition k))) ≡ fits x sd c t k
-  unfolding fits
-  with_title a e n = ap (λ (b : Bool). b && (number_fits x.state (number c.state) &&
-      (side_fits x.side sd && (flag_fits x.dsc c.dsc && condition_fits x.condition k))))
-      (sym (not-false a n) ∙ e)
-
-  pub no_state : (a b : Bool) (s : ℕ) → a ≡ title_fits x.event t → not a ≡ false → s ≡ number c.state
-      → b ≡ number_fits x.state s → not b ≡ true → false ≡ fits x sd c t k
-  no_state a b s e n q f m = ap
-      (λ (y : Bool). y && (side_fits x.side sd && (flag_fits x.dsc c.dsc && condition_fits x.condition k)))
-      (sym (not-true b m) ∙ f ∙ ap (number_fits x.state) q) ∙ with_title a e n
-
-  with_state : (a b : Bool) (s : ℕ) → a ≡ title_fits x.event t → not a ≡ false → s ≡ number c.state
-      → b ≡ number_fits x.state s → not b ≡ false
-      → (side_fits x.side sd && (flag_fits x.dsc c.dsc && condition_fits x.condition k)) ≡ fits x sd c t k
-  with_state a b s e n q f m = ap
-      (λ (y : Bool). y && (side_fits x.side sd && (flag_fits x.dsc c.dsc && condition_fits x.condition k)))
-      (sym (not-false b m) ∙ f ∙ ap (number_fits x.state) q) ∙ with_title a e n
-
-  pub no_side : (a b d : Bool) (s : ℕ) → a ≡ title_fits x.event t → not a ≡ false → s ≡ number c.state
-      → b ≡ number_fits x.state s → not b ≡ false → d ≡ side_fits x.side sd → not d ≡ true → false ≡ fits x sd c t k
-  no_side a b d s e n q f m g l = ap
-      (λ (y : Bool). y && (flag_fits x.dsc c.dsc && condition_fits x.condition k)) (sym (not-true d l) ∙ g) ∙
-      with_state a b s e n q f m
-
-  with_side : (a b d : Bool) (s : ℕ) → a ≡ title_fits x.event t → not a ≡ false → s ≡ number c.state
-      → b ≡ number_fits x.state s → not b ≡ false → d ≡ side_fits x.side sd → not d ≡ false
-      → (flag_fits x.dsc c.dsc && condition_fits x.condition k) ≡ fits x sd c t k
-  with_side a b d s e n q f m g l = ap
-      (λ (y : Bool). y && (flag_fits x.dsc c.dsc && condition_fits x.condition k)) (sym (not-false d l) ∙ g) ∙
-      with_state a b s e n q f m
-
-  pub no_flag : (a b d h : Bool) (s : ℕ) → a ≡ title_fits x.event t → not a ≡ false → s ≡ number c.state
-      → b ≡ number_fits x.state s → not b ≡ false → d ≡ side_fits x.side sd → not d ≡ false
-      → h ≡ flag_fits x.dsc c.dsc → not h ≡ true → false ≡ fits x sd c t k
-  no_flag a b d h s e n q f m g l i j = ap (λ (y : Bool). y && condition_fits x.condition k) (sym (not-true h j) ∙ i)
-      ∙ with_side a b d s e n q f m g l
-
-  pub by_condition : (a b d h r : Bool) (s : ℕ) → a ≡ title_fits x.event t → not a ≡ false → s ≡ number c.state
-      → b ≡ number_fits x.state s → not b ≡ false → d ≡ side_fits x.side sd → not d ≡ false
-      → h ≡ flag_fits x.dsc c.dsc → not h ≡ false → r ≡ condition_fits x.condition k → r ≡ fits x sd c t k
-  by_condition a b d h r s e n q f m g l i j v = v ∙ ap (λ (y : Bool). y && condition_fits x.condition k)
-      (sym (not-false h j) ∙ i) ∙ with_side a b d s e n q f m g l
-
--- ---- the walk
+use Rattle.rows.specs.Engine.{fits, walk}
+use Rattle.rows_engine.specs.Packing.{row_of_number}
+use Rattle.rows_engine.proofs.Digits.{row_at}
 
 drop_cons : (l : List Row) (i : ℕ) (d : Row) → i < length l → drop i l ≡ get_or l i d ∷ drop (suc i) l
 drop_cons [] i d h = absurd (omega arith)

@@ -1,4 +1,5 @@
-// The codes of the columns, as specs/Names of crate rows has them.
+// The codes of the columns, as specs/Names of crate rows has them. They are numbers and no enum: a column is a number in the definitions (`Row` and `Out` of
+// crate rows), and `walk` answers for any title and any condition.
 // Side.
 pub const AIR: u64 = 0;
 

@@ -1,14 +1,14 @@
 // What the engine reads of an event: the title of its row, the condition that holds first, and its parameters.
-ghost use Rattle.std.specs.Prelude.{◌≡◌, cond};
+ghost use Rattle.std.specs.Prelude.{◌≡◌};
 ghost use Rattle.editions.specs.Editions.{secures, spares};
 ghost use Rattle.machine.specs.Calls.{unless_spared};
 ghost use Rattle.machine.specs.Faults.{turned_away, peer_fits, from_centre, differs, send_allowed};
-ghost use Rattle.rows.specs.Events.{user_title, service_title, title_of, pdu_first, user_condition, forward_condition, start_condition, answer_condition, abort_condition, send_condition, indication_condition, confirmation_condition, service_condition, condition_of, carried, parameters, user_parameters, service_parameters, parameters_of};
+ghost use Rattle.rows.specs.Events.{user_title, service_title, title_of, pdu_first, user_condition, forward_condition, start_condition, answer_condition, abort_condition, send_condition, indication_condition, confirmation_condition, service_condition, condition_of, carried, user_parameters, service_parameters, parameters_of};
 
 use crate::codes;
 use control::{Side, awaits_response};
 use editions::Edition;
-use machine::event::{Event, Qos, ServicePrimitive, UserData, UserPrimitive, is_dsc};
+use machine::event::{Event, Qos, ServicePrimitive, UserData, UserPrimitive};
 use machine::record::Record;
 use rows::Parameters;
 
@@ -17,28 +17,17 @@ const ACCEPTED: u64 = 0;
 
 const UNDEFINED: u64 = 0;
 
-fn pick(b: bool, x: u64, y: u64) -> u64
-    ensures { result ≡ cond b x y }
-{
-    if b { x } else { y }
-}
-
+// What a facility sends to the ground machine is a forward.
 fn from_centre(side: Side, peer: u64) -> bool
     ensures { result ≡ from_centre side peer }
 {
-    match side {
-        Side::Air => false,
-        Side::Ground => peer == ServicePrimitive::FACILITY,
-    }
+    side == Side::Ground && peer == ServicePrimitive::FACILITY
 }
 
 fn peer_fits(side: Side, peer: u64) -> bool
     ensures { result ≡ peer_fits side peer }
 {
-    match side {
-        Side::Air => peer == ServicePrimitive::FACILITY,
-        Side::Ground => true,
-    }
+    side == Side::Ground || peer == ServicePrimitive::FACILITY
 }
 
 fn turns_away(res: u64, source: u64) -> bool
@@ -51,43 +40,20 @@ fn user_title(u: UserPrimitive) -> u64
     ensures { result ≡ user_title u }
 {
     match u {
-        UserPrimitive::StartServiceRequest(mode, _, _) => pick(
-            is_dsc(mode),
-            codes::DSC_START_REQUEST,
-            codes::START_REQUEST,
-        ),
-        UserPrimitive::StartServiceResponse(dsc, x, _) => pick(
-            dsc,
-            pick(
-                x == ACCEPTED,
-                codes::DSC_START_RESPONSE_ACCEPTED,
-                codes::DSC_START_RESPONSE_REJECTED,
-            ),
-            pick(
-                x == ACCEPTED,
-                codes::START_RESPONSE_ACCEPTED,
-                codes::START_RESPONSE_REJECTED,
-            ),
-        ),
+        UserPrimitive::StartServiceRequest(UserPrimitive::DSC, _, _) => codes::DSC_START_REQUEST,
+        UserPrimitive::StartServiceRequest(_, _, _) => codes::START_REQUEST,
+        UserPrimitive::StartServiceResponse(true, ACCEPTED, _) =>
+            codes::DSC_START_RESPONSE_ACCEPTED,
+        UserPrimitive::StartServiceResponse(true, _, _) => codes::DSC_START_RESPONSE_REJECTED,
+        UserPrimitive::StartServiceResponse(false, ACCEPTED, _) => codes::START_RESPONSE_ACCEPTED,
+        UserPrimitive::StartServiceResponse(false, _, _) => codes::START_RESPONSE_REJECTED,
         UserPrimitive::MessageServiceRequest(_, _) => codes::MESSAGE_REQUEST,
-        UserPrimitive::EndServiceRequest(dsc, _) => pick(
-            dsc,
-            codes::DSC_END_REQUEST,
-            codes::END_REQUEST,
-        ),
-        UserPrimitive::EndServiceResponse(dsc, x, _) => pick(
-            dsc,
-            pick(
-                x == ACCEPTED,
-                codes::DSC_END_RESPONSE_ACCEPTED,
-                codes::DSC_END_RESPONSE_REJECTED,
-            ),
-            pick(
-                x == ACCEPTED,
-                codes::END_RESPONSE_ACCEPTED,
-                codes::END_RESPONSE_REJECTED,
-            ),
-        ),
+        UserPrimitive::EndServiceRequest(true, _) => codes::DSC_END_REQUEST,
+        UserPrimitive::EndServiceRequest(false, _) => codes::END_REQUEST,
+        UserPrimitive::EndServiceResponse(true, ACCEPTED, _) => codes::DSC_END_RESPONSE_ACCEPTED,
+        UserPrimitive::EndServiceResponse(true, _, _) => codes::DSC_END_RESPONSE_REJECTED,
+        UserPrimitive::EndServiceResponse(false, ACCEPTED, _) => codes::END_RESPONSE_ACCEPTED,
+        UserPrimitive::EndServiceResponse(false, _, _) => codes::END_RESPONSE_REJECTED,
         UserPrimitive::UserAbortServiceRequest(_, _) => codes::USER_ABORT,
     }
 }
@@ -97,18 +63,12 @@ fn service_title(p: ServicePrimitive) -> u64
 {
     match p {
         ServicePrimitive::DStartIndication(_, _, _, _) => codes::D_START,
-        ServicePrimitive::DStartConfirmation(x, _, _, _) => pick(
-            x == ACCEPTED,
-            codes::D_START_ACCEPTED,
-            codes::D_START_REJECTED,
-        ),
+        ServicePrimitive::DStartConfirmation(ACCEPTED, _, _, _) => codes::D_START_ACCEPTED,
+        ServicePrimitive::DStartConfirmation(_, _, _, _) => codes::D_START_REJECTED,
         ServicePrimitive::DDataIndication => codes::D_DATA,
         ServicePrimitive::DEndIndication => codes::D_END,
-        ServicePrimitive::DEndConfirmation(x) => pick(
-            x == ACCEPTED,
-            codes::D_END_ACCEPTED,
-            codes::D_END_REJECTED,
-        ),
+        ServicePrimitive::DEndConfirmation(ACCEPTED) => codes::D_END_ACCEPTED,
+        ServicePrimitive::DEndConfirmation(_) => codes::D_END_REJECTED,
         ServicePrimitive::DAbortIndication(_) => codes::D_ABORT,
         ServicePrimitive::DPAbortIndication => codes::D_P_ABORT,
     }
@@ -130,136 +90,87 @@ fn user_condition(r: Record, u: UserPrimitive) -> u64
     ensures { result ≡ user_condition r u }
 {
     match u {
-        UserPrimitive::StartServiceRequest(_, _, _) => codes::PLAIN,
-        UserPrimitive::StartServiceResponse(_, _, _) => codes::PLAIN,
-        UserPrimitive::MessageServiceRequest(holds, job) => pick(
-            !holds,
-            codes::NO_MESSAGE,
-            pick(job <= r.highest, codes::REPEAT, codes::PLAIN),
-        ),
-        UserPrimitive::EndServiceRequest(_, _) => codes::PLAIN,
-        UserPrimitive::EndServiceResponse(_, _, _) => codes::PLAIN,
-        UserPrimitive::UserAbortServiceRequest(_, _) => codes::PLAIN,
+        UserPrimitive::MessageServiceRequest(false, _) => codes::NO_MESSAGE,
+        UserPrimitive::MessageServiceRequest(true, job) if job <= r.highest => codes::REPEAT,
+        _ => codes::PLAIN,
     }
 }
 
+// A PDU that may be absent counts, where it is, as the send that it stands for.
 fn pdu_first(may: bool, a: UserData, k: u64) -> u64
     ensures { result ≡ pdu_first may a k }
 {
-    let kind = a.kind();
-    pick(
-        kind == UserData::ABSENT,
-        pick(may, codes::SEND, codes::NO_PDU),
-        pick(kind == UserData::NOT_VALID, codes::INVALID_PDU, k),
-    )
+    match a {
+        UserData::Absent if may => codes::SEND,
+        UserData::Absent => codes::NO_PDU,
+        UserData::NotValid => codes::INVALID_PDU,
+        _ => k,
+    }
 }
 
 fn forward_condition(r: Record, version: u64, a: UserData) -> u64
     ensures { result ≡ forward_condition r version a }
 {
-    let kind = a.kind();
-    pick(
-        kind == UserData::FORWARD,
-        pick(
-            !r.forwards,
-            codes::UNSUPPORTED_FORWARD,
-            pick(
-                version == r.version,
-                codes::EQUAL_FORWARD,
-                codes::OTHER_FORWARD,
-            ),
-        ),
-        codes::OTHER_PDU,
-    )
+    if !matches!(a, UserData::Forward) {
+        codes::OTHER_PDU
+    } else if !r.forwards {
+        codes::UNSUPPORTED_FORWARD
+    } else if version == r.version {
+        codes::EQUAL_FORWARD
+    } else {
+        codes::OTHER_FORWARD
+    }
 }
 
 fn start_condition(side: Side, r: Record, peer: u64, version: u64, a: UserData) -> u64
     ensures { result ≡ start_condition side r peer version a }
 {
-    let kind = a.kind();
-    pick(
-        from_centre(side, peer),
-        forward_condition(r, version, a),
-        pick(
-            kind == UserData::START,
-            pick(
-                a.mode(),
-                codes::DSC_START,
-                pick(
-                    peer_fits(side, peer),
-                    codes::START,
-                    codes::START_OF_AIRCRAFT,
-                ),
-            ),
-            codes::OTHER_PDU,
-        ),
-    )
+    if from_centre(side, peer) {
+        return forward_condition(r, version, a);
+    }
+    match a {
+        UserData::Start(true) => codes::DSC_START,
+        UserData::Start(false) if peer_fits(side, peer) => codes::START,
+        UserData::Start(false) => codes::START_OF_AIRCRAFT,
+        _ => codes::OTHER_PDU,
+    }
 }
 
 fn send_allowed(may: bool, live: bool, a: UserData) -> bool
     ensures { result ≡ send_allowed may live a }
 {
-    let send = a.kind() == UserData::SEND;
-    if may {
-        if live {
-            return false;
-        }
-        return send;
-    }
-    send
+    !(may && live) && matches!(a, UserData::Send)
 }
 
 fn answer_condition(may: bool, live: bool, a: UserData) -> u64
     ensures { result ≡ answer_condition may live a }
 {
-    let kind = a.kind();
-    pdu_first(
-        may,
-        a,
-        pick(
-            send_allowed(may, live, a),
-            codes::SEND,
-            pick(
-                kind == UserData::FORWARD_RESPONSE,
-                codes::RESPONSE,
-                codes::OTHER_PDU,
-            ),
-        ),
-    )
+    let k = match a {
+        UserData::ForwardResponse(_) => codes::RESPONSE,
+        _ if send_allowed(may, live, a) => codes::SEND,
+        _ => codes::OTHER_PDU,
+    };
+    pdu_first(may, a, k)
 }
 
 fn abort_condition(o: u64, a: UserData) -> u64
     ensures { result ≡ abort_condition o a }
 {
-    let kind = a.kind();
-    pick(
-        o == ServicePrimitive::USER,
-        pick(
-            kind == UserData::ABORT_USER,
-            codes::ABORT_OF_USER,
-            codes::OTHER_PDU,
-        ),
-        pick(
-            o == ServicePrimitive::PROVIDER,
-            pick(
-                kind == UserData::ABORT_PROVIDER,
-                codes::ABORT_OF_PROVIDER,
-                codes::OTHER_PDU,
-            ),
-            codes::OTHER_PDU,
-        ),
-    )
+    match a {
+        UserData::AbortUser(_) if o == ServicePrimitive::USER => codes::ABORT_OF_USER,
+        UserData::AbortProvider(_) if o == ServicePrimitive::PROVIDER => codes::ABORT_OF_PROVIDER,
+        _ => codes::OTHER_PDU,
+    }
 }
 
 fn send_condition(may: bool, a: UserData) -> u64
     ensures { result ≡ send_condition may a }
 {
-    let kind = a.kind();
-    pdu_first(
-        may,
-        a,
-        pick(kind == UserData::SEND, codes::SEND, codes::OTHER_PDU),
-    )
+    let k = match a {
+        UserData::Send => codes::SEND,
+        _ => codes::OTHER_PDU,
+    };
+    pdu_first(may, a, k)
 }
 
 // A security value that is not the one it is compared with, where they are compared.
@@ -280,11 +191,10 @@ fn indication_condition(
 ) -> u64
     ensures { result ≡ indication_condition side r peer s qos version a }
 {
-    let edition = r.edition;
     if !qos.fits() {
         return codes::WRONG_QUALITY;
     }
-    if differs(edition, s, r.policy) {
+    if differs(r.edition, s, r.policy) {
         return codes::WRONG_SECURITY;
     }
     pdu_first(false, a, start_condition(side, r, peer, version, a))
@@ -293,32 +203,28 @@ fn indication_condition(
 fn confirmation_condition(r: Record, res: u64, source: u64, s: u64, a: UserData) -> u64
     ensures { result ≡ confirmation_condition r res source s a }
 {
-    let c = r.control;
-    let edition = r.edition;
     if turns_away(res, source) {
         return codes::TURNED_AWAY;
     }
-    if differs(edition, s, r.request) {
+    if differs(r.edition, s, r.request) {
         return codes::WRONG_SECURITY;
     }
-    if awaits_response(c) {
-        return answer_condition(false, res == ACCEPTED, a);
-    }
-    answer_condition(edition.spares(), res == ACCEPTED, a)
+    let may = !awaits_response(r.control) && r.edition.spares();
+    answer_condition(may, res == ACCEPTED, a)
 }
 
 fn service_condition(side: Side, r: Record, p: ServicePrimitive, a: UserData) -> u64
     ensures { result ≡ service_condition side r p a }
 {
-    let edition = r.edition;
     match p {
         ServicePrimitive::DStartIndication(x, s, q, v) => indication_condition(
             side, r, x, s, q, v, a,
         ),
         ServicePrimitive::DStartConfirmation(x, o, s, _) => confirmation_condition(r, x, o, s, a),
         ServicePrimitive::DDataIndication => send_condition(false, a),
-        ServicePrimitive::DEndIndication => send_condition(edition.spares(), a),
-        ServicePrimitive::DEndConfirmation(_) => send_condition(edition.spares(), a),
+        ServicePrimitive::DEndIndication | ServicePrimitive::DEndConfirmation(_) => {
+            send_condition(r.edition.spares(), a)
+        }
         ServicePrimitive::DAbortIndication(o) => abort_condition(o, a),
         ServicePrimitive::DPAbortIndication => codes::PLAIN,
     }
@@ -329,129 +235,100 @@ pub fn condition_of(side: Side, r: Record, e: Event) -> u64
 {
     match e {
         Event::User(u) => user_condition(r, u),
-        Event::Forward(_, _) => codes::PLAIN,
         Event::Service(p, a) => service_condition(side, r, p, a),
-        Event::TimerExpires => pick(r.timer, codes::PLAIN, codes::TIMER_STOPPED),
-        Event::UnrecoverableSystemError => codes::PLAIN,
+        Event::TimerExpires if !r.timer => codes::TIMER_STOPPED,
+        _ => codes::PLAIN,
     }
 }
 
-fn parameters(
-    class: u64,
-    security: u64,
-    res: u64,
-    job: u64,
-    reason: u64,
-    version: u64,
-    pdu: UserData,
-) -> Parameters
-    ensures { result ≡ parameters class security res job reason version pdu }
-{
-    Parameters {
-        class,
-        security,
-        result: res,
-        job,
-        reason,
-        version,
-        pdu,
-    }
-}
+// Of an event that brings none but its PDU.
+const NONE: Parameters = Parameters {
+    class: 0,
+    security: 0,
+    result: 0,
+    job: 0,
+    reason: 0,
+    version: 0,
+    pdu: UserData::Absent,
+};
 
 // The security value that a D-START carries.
 fn carried(r: Record, s: u64) -> u64
     ensures { result ≡ carried r s }
 {
-    let edition = r.edition;
-    pick(edition.secures(), s, Record::NO_SECURITY)
+    if r.edition.secures() {
+        s
+    } else {
+        Record::NO_SECURITY
+    }
 }
 
 // The PDU of a response or an end.
 fn sent_pdu(r: Record, holds: bool) -> UserData
     ensures { result ≡ unless_spared (spares r.edition) holds }
 {
-    let edition = r.edition;
-    if edition.spares() {
-        if holds {
-            return UserData::Send;
-        }
-        return UserData::Absent;
+    if r.edition.spares() && !holds {
+        UserData::Absent
+    } else {
+        UserData::Send
     }
-    UserData::Send
 }
 
 fn user_parameters(r: Record, u: UserPrimitive) -> Parameters
     ensures { result ≡ user_parameters r u }
 {
     match u {
-        UserPrimitive::StartServiceRequest(_, k, s) => parameters(
-            k,
-            carried(r, s),
-            0,
-            0,
-            0,
-            0,
-            UserData::Absent,
-        ),
-        UserPrimitive::StartServiceResponse(_, x, holds) => parameters(
-            0,
-            carried(r, r.policy),
-            x,
-            0,
-            0,
-            0,
-            sent_pdu(r, holds),
-        ),
-        UserPrimitive::MessageServiceRequest(_, j) => parameters(0, 0, 0, j, 0, 0, UserData::Send),
-        UserPrimitive::EndServiceRequest(_, holds) => parameters(
-            0,
-            0,
-            0,
-            0,
-            0,
-            0,
-            sent_pdu(r, holds),
-        ),
-        UserPrimitive::EndServiceResponse(_, x, holds) => parameters(
-            0,
-            0,
-            x,
-            0,
-            0,
-            0,
-            sent_pdu(r, holds),
-        ),
-        UserPrimitive::UserAbortServiceRequest(g, x) => parameters(
-            0,
-            0,
-            0,
-            0,
-            pick(g, x, UNDEFINED),
-            0,
-            UserData::Absent,
-        ),
+        UserPrimitive::StartServiceRequest(_, class, s) => Parameters {
+            class,
+            security: carried(r, s),
+            ..NONE
+        },
+        UserPrimitive::StartServiceResponse(_, x, holds) => Parameters {
+            security: carried(r, r.policy),
+            result: x,
+            pdu: sent_pdu(r, holds),
+            ..NONE
+        },
+        UserPrimitive::MessageServiceRequest(_, job) => Parameters {
+            job,
+            pdu: UserData::Send,
+            ..NONE
+        },
+        UserPrimitive::EndServiceRequest(_, holds) => Parameters {
+            pdu: sent_pdu(r, holds),
+            ..NONE
+        },
+        UserPrimitive::EndServiceResponse(_, x, holds) => Parameters {
+            result: x,
+            pdu: sent_pdu(r, holds),
+            ..NONE
+        },
+        UserPrimitive::UserAbortServiceRequest(given, x) => Parameters {
+            reason: if given { x } else { UNDEFINED },
+            ..NONE
+        },
     }
 }
 
 fn service_parameters(r: Record, p: ServicePrimitive, a: UserData) -> Parameters
     ensures { result ≡ service_parameters r p a }
 {
+    let none = Parameters { pdu: a, ..NONE };
     match p {
-        ServicePrimitive::DStartIndication(_, s, q, v) => parameters(
-            q.routing,
-            carried(r, s),
-            0,
-            0,
-            0,
-            v,
-            a,
-        ),
-        ServicePrimitive::DStartConfirmation(x, _, s, v) => parameters(0, s, x, 0, 0, v, a),
-        ServicePrimitive::DDataIndication => parameters(0, 0, 0, 0, 0, 0, a),
-        ServicePrimitive::DEndIndication => parameters(0, 0, 0, 0, 0, 0, a),
-        ServicePrimitive::DEndConfirmation(x) => parameters(0, 0, x, 0, 0, 0, a),
-        ServicePrimitive::DAbortIndication(_) => parameters(0, 0, 0, 0, 0, 0, a),
-        ServicePrimitive::DPAbortIndication => parameters(0, 0, 0, 0, 0, 0, a),
+        ServicePrimitive::DStartIndication(_, s, qos, version) => Parameters {
+            class: qos.routing,
+            security: carried(r, s),
+            version,
+            ..none
+        },
+        ServicePrimitive::DStartConfirmation(x, _, security, version) => Parameters {
+            security,
+            result: x,
+            version,
+            ..none
+        },
+        ServicePrimitive::DEndConfirmation(x) => Parameters { result: x, ..none },
+        _ => none,
     }
 }
 
@@ -460,9 +337,12 @@ pub fn parameters_of(r: Record, e: Event) -> Parameters
 {
     match e {
         Event::User(u) => user_parameters(r, u),
-        Event::Forward(k, s) => parameters(k, carried(r, s), 0, 0, 0, 0, UserData::Absent),
+        Event::Forward(class, s) => Parameters {
+            class,
+            security: carried(r, s),
+            ..NONE
+        },
         Event::Service(p, a) => service_parameters(r, p, a),
-        Event::TimerExpires => parameters(0, 0, 0, 0, 0, 0, UserData::Absent),
-        Event::UnrecoverableSystemError => parameters(0, 0, 0, 0, 0, 0, UserData::Absent),
+        Event::TimerExpires | Event::UnrecoverableSystemError => NONE,
     }
 }

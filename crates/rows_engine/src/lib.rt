@@ -10,9 +10,9 @@ mod table;
 ghost use Rattle.std.specs.Prelude.{◌≡◌, ◌<◌};
 ghost use Rattle.rows.specs.Table.{rows};
 ghost use Rattle.rows.specs.Engine.{side_fits, title_fits, number_fits, flag_fits, condition_fits, fits, walk, row_of, rows_numbered};
-ghost use Rattle.rows_engine.specs.Packing.{row_of_number, row_at};
+ghost use Rattle.rows_engine.specs.Packing.{row_of_number};
 
-use control::{Control, Side, number};
+use control::{Control, Side};
 use effects::outcome_of;
 use events::{condition_of, parameters_of, title_of};
 use machine::event::Event;
@@ -22,6 +22,7 @@ use numbered::is_stale;
 use rows::{Out, Row};
 
 // A row of its number.
+#[tactic(auto, unfolding(crate::specs::Packing::row_of_number))]
 fn row_of(x: u64) -> Row
     ensures { result ≡ row_of_number x }
 {
@@ -47,14 +48,7 @@ fn row_of(x: u64) -> Row
     }
 }
 
-// A row by its place.
-fn row_at(i: usize) -> Row
-    requires { i < 98 }
-    ensures { result ≡ row_at i }
-{
-    row_of(table::ROWS[i])
-}
-
+#[tactic(auto, unfolding(rows::specs::Engine::side_fits))]
 fn side_fits(x: u64, side: Side) -> bool
     ensures { result ≡ side_fits x side }
 {
@@ -65,96 +59,66 @@ fn side_fits(x: u64, side: Side) -> bool
 }
 
 // A title, or one of the four that stand for several.
+#[tactic(auto, unfolding(rows::specs::Engine::title_fits))]
 fn title_fits(x: u64, title: u64) -> bool
     ensures { result ≡ title_fits x title }
 {
-    if x < codes::ANY_USER {
-        return x == title;
-    }
-    if x == codes::ANY_USER {
-        return title < codes::D_START;
-    }
-    if x == codes::ANY_SERVICE {
-        if title < codes::D_START {
-            return false;
+    match x {
+        ..codes::ANY_USER => x == title,
+        codes::ANY_USER => title < codes::D_START,
+        codes::ANY_SERVICE => codes::D_START <= title && title < codes::EXPIRY,
+        codes::D_START_CONFIRMATION => {
+            title == codes::D_START_ACCEPTED || title == codes::D_START_REJECTED
         }
-        return title < codes::EXPIRY;
+        _ => title == codes::D_END_ACCEPTED || title == codes::D_END_REJECTED,
     }
-    if x == codes::D_START_CONFIRMATION {
-        if title == codes::D_START_ACCEPTED {
-            return true;
-        }
-        return title == codes::D_START_REJECTED;
-    }
-    if title == codes::D_END_ACCEPTED {
-        return true;
-    }
-    title == codes::D_END_REJECTED
 }
 
+#[tactic(auto, unfolding(rows::specs::Engine::number_fits))]
 fn state_fits(x: u64, state: u64) -> bool
     ensures { result ≡ number_fits x state }
 {
-    if x == codes::ANY_STATE {
-        return true;
+    match x {
+        codes::ANY_STATE => true,
+        codes::BUSY => state != codes::IDLE,
+        _ => x == state,
     }
-    if x == codes::BUSY {
-        return state != codes::IDLE;
-    }
-    x == state
 }
 
+#[tactic(auto, unfolding(rows::specs::Engine::flag_fits))]
 fn flag_fits(x: u64, on: bool) -> bool
     ensures { result ≡ flag_fits x on }
 {
-    if x == codes::AS_IS {
-        return true;
-    }
-    if on {
-        return x == codes::YES;
-    }
-    x == codes::NO
+    x == codes::AS_IS || x == (if on { codes::YES } else { codes::NO })
 }
 
+#[tactic(auto, unfolding(rows::specs::Engine::condition_fits))]
 fn condition_fits(x: u64, condition: u64) -> bool
     ensures { result ≡ condition_fits x condition }
 {
-    if x == codes::ANYHOW {
-        return true;
-    }
-    x == condition
+    x == codes::ANYHOW || x == condition
 }
 
+#[tactic(auto, unfolding(rows::specs::Engine::fits))]
 fn fits(row: Row, side: Side, c: Control, title: u64, condition: u64) -> bool
     ensures { result ≡ fits row side c title condition }
 {
-    if !title_fits(row.event, title) {
-        return false;
-    }
-    let s = c.state;
-    if !state_fits(row.state, number(s)) {
-        return false;
-    }
-    if !side_fits(row.side, side) {
-        return false;
-    }
-    if !flag_fits(row.dsc, c.dsc) {
-        return false;
-    }
-    condition_fits(row.condition, condition)
+    title_fits(row.event, title)
+        && state_fits(row.state, u64::from(c.state))
+        && side_fits(row.side, side)
+        && flag_fits(row.dsc, c.dsc)
+        && condition_fits(row.condition, condition)
 }
 
 // The first row that fits.
 pub fn walk(side: Side, c: Control, title: u64, condition: u64) -> Out
     ensures { result ≡ walk rows side c title condition }
 {
-    let mut i: usize = 0;
-    while i < 98 {
-        let row = row_at(i);
+    for &x in &table::ROWS {
+        let row = row_of(x);
         if fits(row, side, c, title, condition) {
             return row.out;
         }
-        i += 1;
     }
     Out {
         next: codes::STAYS,
@@ -171,19 +135,19 @@ pub fn walk(side: Side, c: Control, title: u64, condition: u64) -> Out
 }
 
 // The row of an event.
+#[tactic(auto, unfolding(rows::specs::Engine::row_of))]
 fn row_for(side: Side, r: Record, e: Event) -> Out
     ensures { result ≡ row_of side r e }
 {
-    let c = r.control;
-    walk(side, c, title_of(e), condition_of(side, r, e))
+    walk(side, r.control, title_of(e), condition_of(side, r, e))
 }
 
 // One event at one machine whose record holds a number: SHAPE, STALE, then what the first row that fits says.
+#[tactic(auto, unfolding(rows::specs::Engine::rows_numbered))]
 pub fn step(side: Side, r: Record, held: u64, e: Event, brought: u64) -> Outcome
     ensures { result ≡ rows_numbered side r held e brought }
 {
-    let edition = r.edition;
-    if !e.fits(side, edition) {
+    if !e.fits(side, r.edition) {
         return Outcome::refused(StepRefusal::Shape, r);
     }
     if is_stale(held, e, brought) {

@@ -1,6 +1,7 @@
 // The rows of tables 2.3.5-2 (air) and 2.3.5-3 (ground) of Doc 9705, in their order, with those that the text adds. The first row that fits an event decides.
 // A row is a sum of words: the side, the event, the state, DSC where it is asked for, a condition; what becomes of the record, what is sent, what is told;
 // and what the printed tables have there, if it is not this. Behind a row stand the paragraphs that it follows: 3.5 of Doc 9880, 2.3.5 of Doc 9705.
+// It is a sum and no struct: a struct for each row takes some twenty lines where the printed table has one, and 13 kB of stack.
 use crate::{codes, reason};
 
 pub const ROWS: [u64; 98] = [

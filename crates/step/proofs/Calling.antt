@@ -5,13 +5,12 @@ use mathlib.Core.Bool.{Bool, true, false, not, cond, ◌&&◌}
 use mathlib.Core.List.{List, [], ◌++◌}
 use Prim.Native.Nat.{ℕ, ◌+◌, ◌*◌, ◌^◌, ◌≤◌, ◌<◌}
 use native.Mathlib.Omega.{arith}
-use borrow.Author.Tests.{lt-ltb, le-ltb, le-leb, eq-eqb, ne_eqb, eqb-true, not-false}
+use borrow.Author.Tests.{lt-ltb, le-ltb, le-leb, eq-eqb, ne_eqb, eqb-true, ltb-false, not-false}
 use lib.Dec.{eqb, ltb, leb}
 use lib.ListN.{length, length-append}
 use lib.Pow.{pow_pos}
 use Rattle.bits.specs.Bits.{bits_n, run}
 use Rattle.bits.specs.Put.{left, put_run, put_if, put_number, put_led}
-use Rattle.bits.specs.declared.Put.{Put}
 use Rattle.bits.proofs.Numbers.{length_bits_n}
 use Rattle.bits.proofs.Bytes.{length_to, length_run, run_to}
 use Rattle.apdu.specs.Sizes.{all_bits, buffer_least, bit}
@@ -25,8 +24,6 @@ use Rattle.plain.specs.Plain as plain
 use Rattle.pdus.specs.declared.PduType.{PduType}
 use Rattle.apdu.specs.declared.Data.{Data}
 use Rattle.apdu.specs.declared.Forward.{Forward as Forwarded}
-use Rattle.apdu.specs.declared.Written.{Written}
-use Rattle.apdu.specs.declared.Written.TheVariants.{Bits}
 use Rattle.apdu.proofs.Writers.{written_out}
 use Rattle.control.specs.declared.Side.{Side}
 use Rattle.machine.specs.Event.{service_fits, event_fits}
@@ -45,17 +42,23 @@ use Rattle.machine.specs.declared.outcome.StepRefusal.{StepRefusal}
 use Rattle.machine.specs.declared.outcome.StepRefusal.TheVariants.{Shape, Stale}
 use Rattle.numbered.specs.Numbers.{service_starts, is_start, is_service, is_stale, held_after, numbered_step}
 use Rattle.numbered.proofs.Laws.{shape_first, then_stale, then_fitting}
-use Rattle.stored.specs.Stored.{load_at, store_at}
-use Rattle.stored.specs.declared.Loaded.{Loaded}
-use Rattle.stored.specs.declared.Loaded.TheVariants.{Is, NoRecord}
+use Rattle.stored.specs.Stored.{load_at, store_at, is_stored}
 use Rattle.packed.specs.Packed.{packed, invoked_number, told_number, version_number}
-use Rattle.step.specs.Call.{Carried, Called, called, carries_data, carried_by, no_data, bits_of_written, pdus_of, first_takes, passes, second_takes, finished, concluded, event_step, with_record, entering, user_step, forward_step, reads_as, read_pdu, meaning, data_step, bare_step, service_step}
-use Rattle.step.specs.Handing.{came, arrival_of, arrived, led_run, delivered_of, is_given, is_reply, reply_takes, Settled, settled, concluded_of, host_event}
+use Rattle.step.specs.Call.{Carried, Called, called, call_refusal, carries_data, carried_by, no_data, bits_of_written, pdus_of, first_takes, passes, second_takes, finished, concluded, event_step, with_record, entering, user_step, forward_step, reads_as, read_pdu, meaning, data_step, bare_step, service_step}
+use Rattle.step.specs.Handing.{came, arrival_of, arrived, led_run, delivered_of, is_given, is_reply, reply_takes, Settled, settled, concluded_of, host_event, opened}
 use Rattle.step.specs.declared.arrived.Arrival.{Arrival}
+use Rattle.step.specs.declared.answers.CallRefusal.{CallRefusal}
+use Rattle.step.specs.declared.answers.CallRefusal.TheVariants as is
+use Rattle.step.specs.declared.call.HostEvent.{HostEvent}
+use Rattle.step.specs.declared.call.HostEvent.TheVariants.{TimerExpires, SystemError}
+use Rattle.words.specs.Limits.{room}
 use Rattle.step.proofs.Fitting.{read_fits, codes_same}
 use Rattle.step.proofs.Hands.{Hands, Quiet, service_hands, service_replies, host_replies, host_quiet, user_given, user_quiet, forward_quiet, forward_sends}
 use Rattle.step.proofs.Runs.{none_fits, absent_second, pdu_handed, arrival_pdu}
 use Rattle.step.proofs.Taken.{never}
+use Rattle.std.specs.Prelude.{Err, Ok, Option, Result, Some, None, ok_or, unwrap_or}
+use Rattle.words.specs.declared.Unwritten.{Unwritten}
+use Rattle.stored.specs.declared.Stored.{Stored}
 
 -- ---- the answer to a primitive of the dialogue service has no message data, and is the same in every edition
 
@@ -82,18 +85,61 @@ module _ (r a b : List ℕ) (k : Side → Record → ℕ → Called) where
   unfolding entering
   no_room_second h g = rw (le-ltb (length a) buffer_least h, lt-ltb (length b) buffer_least g)
 
-  module _ (ha : buffer_least ≤ length a) (hb : buffer_least ≤ length b) (l : Loaded) (p : l ≡ load_at r) where
+  module _ (ha : buffer_least ≤ length a) (hb : buffer_least ≤ length b) (l : Option Stored) (p : l ≡ load_at r) where
     enters : entering r a b k ≡ with_record r a b l k
     unfolding entering
     enters = rw (le-ltb (length a) buffer_least ha, le-ltb (length b) buffer_least hb, ← p)
 
-    pub no_record : l ≡ NoRecord → called 2 r a b ≡ entering r a b k
+    pub no_record : l ≡ None → called 2 r a b ≡ entering r a b k
     unfolding with_record
     no_record q = rw (enters, q)
 
-    pub with_record_is : (sd : Side) (x : Record) (n : ℕ) (o : Called) → l ≡ Is sd x n → o ≡ k sd x n → o ≡ entering r a b k
+    pub with_record_is : (sd : Side) (x : Record) (n : ℕ) (o : Called) → l ≡ is_stored sd x n → o ≡ k sd x n → o ≡ entering r a b k
     unfolding with_record
     with_record_is sd x n o q e = e ∙ rw (enters, q)
+
+-- the same, with what `opened` answers
+module _ (r a b : List ℕ) (k : Side → Record → ℕ → Called) (x : Result Stored CallRefusal) (p : x ≡ opened r a b) where
+  pub not_opened : (e : CallRefusal) → x ≡ Err e → called (call_refusal e) r a b ≡ entering r a b k
+  unfolding opened entering with_record
+  not_opened e q = by (ltb (length a) buffer_least) (ltb (length b) buffer_least) (load_at r) (sym p ∙ q)
+    where
+      number_in : Result Stored CallRefusal → ℕ
+      number_in (Ok z) = 0
+      number_in (Err e) = call_refusal e
+
+      by : (s t : Bool) (l : Option Stored) → cond s (Err is.Room) (cond t (Err is.Room) (ok_or l (is.Step Shape))) ≡ Err e
+          → called (call_refusal e) r a b ≡ cond s (called room r a b) (cond t (called room r a b) (with_record r a b l k))
+      by true t l f = ap (λ (y : Result Stored CallRefusal). called (number_in y) r a b) (sym f)
+      by false true l f = ap (λ (y : Result Stored CallRefusal). called (number_in y) r a b) (sym f)
+      by false false None f = ap (λ (y : Result Stored CallRefusal). called (number_in y) r a b) (sym f)
+      by false false (Some z) f = cc
+
+  module _ (z : Stored) (q : x ≡ Ok z) where
+    pub is_opened : (o : Called) → o ≡ k z.side z.machine z.number → o ≡ entering r a b k
+    unfolding opened entering with_record
+    is_opened o f = f ∙ by (ltb (length a) buffer_least) (ltb (length b) buffer_least) (load_at r) (sym p ∙ q)
+      where
+        of : Result Stored CallRefusal → Called
+        of (Ok z) = k z.side z.machine z.number
+        of (Err e) = called 0 r a b
+
+        by : (s t : Bool) (l : Option Stored) → cond s (Err is.Room) (cond t (Err is.Room) (ok_or l (is.Step Shape))) ≡ Ok z
+            → k z.side z.machine z.number ≡ cond s (called room r a b) (cond t (called room r a b) (with_record r a b l k))
+        by true t l f = cc
+        by false true l f = cc
+        by false false None f = cc
+        by false false (Some y) f = ap of (sym f)
+
+pub opened_room : (r a b : List ℕ) (x : Result Stored CallRefusal) (z : Stored) → x ≡ opened r a b → x ≡ Ok z → buffer_least ≤ length b
+unfolding opened
+opened_room r a b x z p q = by (ltb (length a) buffer_least) (ltb (length b) buffer_least) refl (sym p ∙ q)
+  where
+    by : (s t : Bool) → ltb (length b) buffer_least ≡ t
+        → cond s (Err is.Room) (cond t (Err is.Room) (ok_or (load_at r) (is.Step Shape))) ≡ Ok z → buffer_least ≤ length b
+    by true t e f = cc
+    by false true e f = cc
+    by false false e f = ltb-false (length b) buffer_least e
 
 -- ---- the end of a call
 
@@ -108,7 +154,7 @@ module _ (r a b : List ℕ) (ed : Edition) (sd : Side) (n : ℕ) (o : Outcome) (
   unfolding concluded_of
   is_refused j q e = rw (← pt, q, e)
 
-  pub is_taken_is : t ≡ true → is_reply o.apdu ≡ true → (w z : Written) (a' b' : List ℕ)
+  pub is_taken_is : t ≡ true → is_reply o.apdu ≡ true → (w z : Result ℕ Unwritten) (a' b' : List ℕ)
       → done w a' ≡ reply_takes Protected sd o.apdu a → done z b' ≡ delivered_of ed l x o b → (j : ℕ) (r' : List ℕ)
       → Settles r sd o n (bits_of_written w) (bits_of_written z) j r' → called j r' a' b' ≡ concluded_of r a b ed sd n o x l
   unfolding concluded_of finished
@@ -133,7 +179,7 @@ module _ (r a b : List ℕ) (u : UserPrimitive) (v : ℕ) (li lm lc : List ℕ) 
     unfolding user_step concluded
     user_refused j k i = rw (← pt, q, ← po, ← py, k, i)
 
-    pub user_taken : y ≡ true → (w : Written) (a' : List ℕ)
+    pub user_taken : y ≡ true → (w : Result ℕ Unwritten) (a' : List ℕ)
         → done w a' ≡ first_takes x.edition sd li lm lc (carries_data d) o.apdu a → (m : ℕ)
         → m ≡ held_after n (User u) v → (j : ℕ) (r' : List ℕ) → Settles r sd o m (bits_of_written w) 0 j r'
         → called j r' a' b ≡ user_step numbered_step r a b (User u) v li lm lc d sd x n
@@ -151,27 +197,27 @@ gives sd x n u v o po = rw po (user_given sd x n u v)
 
 -- ---- an expiry, a system error
 
-host_fits : (ed : Edition) (sd : Side) (t : Bool) → event_fits sd ed (host_event t) ≡ true
+host_fits : (ed : Edition) (sd : Side) (t : HostEvent) → event_fits sd ed (host_event t) ≡ true
 unfolding event_fits
-host_fits ed sd true = refl
-host_fits ed sd false = refl
+host_fits ed sd TimerExpires = refl
+host_fits ed sd SystemError = refl
 
-host_fresh : (n : ℕ) (t : Bool) → is_stale n (host_event t) 0 ≡ false
+host_fresh : (n : ℕ) (t : HostEvent) → is_stale n (host_event t) 0 ≡ false
 unfolding is_stale is_start is_service
-host_fresh n true = refl
-host_fresh n false = refl
+host_fresh n TimerExpires = refl
+host_fresh n SystemError = refl
 
-host_held : (n : ℕ) (t : Bool) → held_after n (host_event t) 0 ≡ n
+host_held : (n : ℕ) (t : HostEvent) → held_after n (host_event t) 0 ≡ n
 unfolding held_after is_start
-host_held n true = refl
-host_held n false = refl
+host_held n TimerExpires = refl
+host_held n SystemError = refl
 
 none_given : (ed : Edition) (t : PduType) (li lm lc : List ℕ) → given_fits ed t li lm lc no_data ≡ true
 unfolding plain.given_fits plain.content_fits content_in part_in
 none_given Plain t li lm lc = rw (none_fits li lm lc)
 none_given Protected t li lm lc = none_fits li lm lc
 
-module _ (r a b : List ℕ) (t : Bool) (li lm lc : List ℕ) (sd : Side) (x : Record) (n : ℕ) (o : Outcome) (po : o ≡ step_fitting sd x (host_event t)) (y : Bool) (py : y ≡ is_none o.refusal) where
+module _ (r a b : List ℕ) (t : HostEvent) (li lm lc : List ℕ) (sd : Side) (x : Record) (n : ℕ) (o : Outcome) (po : o ≡ step_fitting sd x (host_event t)) (y : Bool) (py : y ≡ is_none o.refusal) where
   host_steps : o ≡ numbered_step sd x n (host_event t) 0
   host_steps = po ∙ sym (then_fitting sd x n (host_event t) 0 (host_fits x.edition sd t) (host_fresh n t))
 
@@ -180,7 +226,7 @@ module _ (r a b : List ℕ) (t : Bool) (li lm lc : List ℕ) (sd : Side) (x : Re
   unfolding user_step concluded
   host_refused j k i = rw (none_given x.edition (pdus_of sd) li lm lc, ← host_steps, ← py, k, i)
 
-  pub host_taken : y ≡ true → (w : Written) (a' : List ℕ) → done w a' ≡ reply_takes Protected sd o.apdu a
+  pub host_taken : y ≡ true → (w : Result ℕ Unwritten) (a' : List ℕ) → done w a' ≡ reply_takes Protected sd o.apdu a
       → (j : ℕ) (r' : List ℕ) → Settles r sd o n (bits_of_written w) 0 j r'
       → called j r' a' b ≡ user_step numbered_step r a b (host_event t) 0 li lm lc no_data sd x n
   unfolding user_step concluded finished second_takes
@@ -204,7 +250,7 @@ module _ (r a b : List ℕ) (t : Bool) (li lm lc : List ℕ) (sd : Side) (x : Re
         g₂,
       )
 
-pub host_answers : (sd : Side) (x : Record) (t : Bool) (o : Outcome) → o ≡ step_fitting sd x (host_event t) → is_reply o.apdu ≡ true
+pub host_answers : (sd : Side) (x : Record) (t : HostEvent) (o : Outcome) → o ≡ step_fitting sd x (host_event t) → is_reply o.apdu ≡ true
 host_answers sd x t o po = rw po (host_replies sd x t)
 
 -- ---- a forward request
@@ -220,7 +266,7 @@ module _ (r a b : List ℕ) (k s v : ℕ) (lm : List ℕ) (f : Forwarded) (sd : 
     unfolding forward_step concluded
     forward_refused j z i = rw (← pt, q, ← po, ← py, z, i)
 
-    pub forward_taken : y ≡ true → (w : Written) (a' : List ℕ) (c : PduType) → c ≡ pdus_of sd
+    pub forward_taken : y ≡ true → (w : Result ℕ Unwritten) (a' : List ℕ) (c : PduType) → c ≡ pdus_of sd
         → done w a' ≡ write_out (forwards c && forward_fits lm f) a (pdu_bits x.edition c (forward f.heading (items_in lm bit f.message)))
         → (j : ℕ) (r' : List ℕ) → Settles r sd o v (bits_of_written w) 0 j r'
         → called j r' a' b ≡ forward_step numbered_step r a b k s v lm f sd x n
@@ -249,13 +295,13 @@ module _ (r a b : List ℕ) (p : ServicePrimitive) (v : ℕ) (l : List ℕ) (sd 
 
   -- ---- refused before the user data are read
 
-  refused_step : (u : UserData) (d : Carried) (w : StepRefusal) → numbered_step sd x n (Service p u) v ≡ refused w x
+  refused_step : (u : UserData) (d : Carried) (w : Option StepRefusal) → numbered_step sd x n (Service p u) v ≡ refused w x
       → is_none w ≡ false → called (refusal_number w) r a b ≡ event_step numbered_step r a b (Service p u) v l l l d sd x n
   unfolding concluded
   refused_step u d w e h = rw (e, h)
 
   module _ (k : user_data_fits x.edition (meaning (read_pdu x.edition sd x.control p l)) ≡ true) (g : ℕ) (h : g ≤ 1) where
-    unread : (w : StepRefusal) → is_none w ≡ false
+    unread : (w : Option StepRefusal) → is_none w ≡ false
         → ((u : UserData) → user_data_fits x.edition u ≡ true → numbered_step sd x n (Service p u) v ≡ refused w x)
         → called (refusal_number w) r a b ≡ service_step numbered_step r a b p v g l sd x n
     unfolding service_step data_step bare_step user_data_fits
@@ -272,12 +318,12 @@ module _ (r a b : List ℕ) (p : ServicePrimitive) (v : ℕ) (l : List ℕ) (sd 
       codes u f = codes_same x.edition sd p u f ∙ sym pt
 
       pub codes_odd : t ≡ false → called 2 r a b ≡ service_step numbered_step r a b p v g l sd x n
-      codes_odd q = unread Shape refl (λ u f. shape_first sd x n (Service p u) v (codes u f ∙ q))
+      codes_odd q = unread (Some Shape) refl (λ u f. shape_first sd x n (Service p u) v (codes u f ∙ q))
 
       pub number_odd : t ≡ true → (y : Bool) → y ≡ is_stale n (Service p Absent) v → y ≡ true
           → called 6 r a b ≡ service_step numbered_step r a b p v g l sd x n
       unfolding is_stale is_start is_service
-      number_odd q y py qy = unread Stale refl (λ u f. then_stale sd x n (Service p u) v (codes u f ∙ q) (sym py ∙ qy))
+      number_odd q y py qy = unread (Some Stale) refl (λ u f. then_stale sd x n (Service p u) v (codes u f ∙ q) (sym py ∙ qy))
 
   -- ---- not refused: what came decides the step
 
@@ -345,10 +391,14 @@ answers sd x p u o po = rw po (service_replies sd x p u)
 
 -- ---- bits handed on
 
-pub led_out : (s bytes z z' : List ℕ) (lead from count n : ℕ) (r r' : Put) → lead ≤ 1 → buffer_least ≤ length s
+place_is : (r : Option ℕ) → unwrap_or r 0 ≡ place_of r
+place_is None = refl
+place_is (Some n) = refl
+
+pub led_out : (s bytes z z' : List ℕ) (lead from count n : ℕ) (r r' : Option ℕ) → lead ≤ 1 → buffer_least ≤ length s
     → from + count ≤ length (lent bytes) → count + 8 ≤ 8 * buffer_least
-    → left r z ≡ put_led s all_bits 0 lead 0 bytes all_bits from count → n ≡ place_of r → left r' z' ≡ put_number z all_bits n (padding n) 0
-    → done (Bits n) z' ≡ write_out true s (led_run (lent bytes) lead from count)
+    → left r z ≡ put_led s all_bits 0 lead 0 bytes all_bits from count → n ≡ unwrap_or r 0 → left r' z' ≡ put_number z all_bits n (padding n) 0
+    → done (Ok n) z' ≡ write_out true s (led_run (lent bytes) lead from count)
 unfolding put_led put_if
 led_out s bytes z z' lead from count n r r' few room there most a i k =
     let e = length_to bytes all_bits in
@@ -362,5 +412,5 @@ led_out s bytes z z' lead from count n r r' few room there most a i k =
     (arith, length-append (bits_n lead 0) (run bytes from count), length_bits_n lead 0, length_run bytes from count w)
     in
     let q : from + count ≤ all_bits = omega (arith, there, e) in
-    written_out s z z' (bits_n lead 0 ++ run bytes from count) true true n (padding n) r r' room g refl refl f i refl k
+    written_out s z z' (bits_n lead 0 ++ run bytes from count) true true n (padding n) r r' room g refl refl f (i ∙ place_is r) refl k
     ∙ ap (λ (y : List ℕ). write_out true s (bits_n lead 0 ++ y)) (sym (run_to bytes all_bits from count q))

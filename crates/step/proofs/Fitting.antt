@@ -23,8 +23,6 @@ use Rattle.pdus.specs.declared.PduType.{PduType}
 use Rattle.pdus.specs.declared.PduType.TheVariants as pdus
 use Rattle.apdu.specs.declared.Apdu.{Apdu}
 use Rattle.apdu.specs.declared.Apdu.TheVariants as is
-use Rattle.apdu.specs.declared.Decoded.{Decoded}
-use Rattle.apdu.specs.declared.Decoded.TheVariants as decoded
 use Rattle.control.specs.declared.Side.{Side}
 use Rattle.control.specs.declared.Control.{Control}
 use Rattle.machine.specs.Event.{service_fits, event_fits}
@@ -33,6 +31,8 @@ use Rattle.machine.specs.declared.event.UserData.{UserData}
 use Rattle.machine.specs.declared.event.ServicePrimitive.{ServicePrimitive}
 use Rattle.machine.specs.declared.event.Event.TheVariants.{Service}
 use Rattle.step.specs.Call.{meaning, abort_of, or_abort, reads_as, reads_again, read_pdu}
+use Rattle.std.specs.Prelude.{Err, Ok, Result}
+use Rattle.fields.specs.declared.Refusal.{Refusal}
 
 low : (n last : ℕ) → whole_fits 0 last n ≡ true → ltb n (suc last) ≡ true
 low n last h = lt-ltb n (suc last) (omega (arith, leb-true n last (both_right (leb 0 n) (leb n last) h)))
@@ -42,21 +42,21 @@ reason_low Plain n h = low n (user_last Plain) h
 reason_low Protected n h = low n (user_last Protected) h
 
 module _ (ed : Edition) where
-  abbrev fits : Decoded → Type 0
+  abbrev fits : Result Apdu Refusal → Type 0
   fits y = user_data_fits ed (meaning y) ≡ true
 
-  meaning_fits : (p : PduType) (l : List ℕ) → Bits l → (y : Decoded) → apdu_at ed p l ≡ y → fits y
+  meaning_fits : (p : PduType) (l : List ℕ) → Bits l → (y : Result Apdu Refusal) → apdu_at ed p l ≡ y → fits y
   unfolding meaning user_data_fits apdu_fits
-  meaning_fits p l b (decoded.Refused r) e = refl
-  meaning_fits p l b (decoded.Is (is.AbortUser n)) e = reason_low ed n ((laws ed).accepted p l (is.AbortUser n) b e).placed_fits
-  meaning_fits p l b (decoded.Is (is.AbortProvider n)) e = low n provider_last ((laws ed).accepted p l (is.AbortProvider n) b e).placed_fits
-  meaning_fits p l b (decoded.Is (is.Start m d)) e = refl
-  meaning_fits p l b (decoded.Is (is.Send d)) e = refl
-  meaning_fits p l b (decoded.Is (is.Forward f)) e = refl
-  meaning_fits p l b (decoded.Is (is.ForwardResponse n)) e = low n response_last (both_right (forwards p)
+  meaning_fits p l b (Err r) e = refl
+  meaning_fits p l b (Ok (is.AbortUser n)) e = reason_low ed n ((laws ed).accepted p l (is.AbortUser n) b e).placed_fits
+  meaning_fits p l b (Ok (is.AbortProvider n)) e = low n provider_last ((laws ed).accepted p l (is.AbortProvider n) b e).placed_fits
+  meaning_fits p l b (Ok (is.Start m d)) e = refl
+  meaning_fits p l b (Ok (is.Send d)) e = refl
+  meaning_fits p l b (Ok (is.Forward f)) e = refl
+  meaning_fits p l b (Ok (is.ForwardResponse n)) e = low n response_last (both_right (forwards p)
       (whole_fits 0 response_last n) ((laws ed).accepted p l (is.ForwardResponse n) b e).placed_fits)
 
-  abort_fits_is : (x : Decoded) (a : Apdu) → fits x → fits (decoded.Is a) → fits (abort_of x a)
+  abort_fits_is : (x : Result Apdu Refusal) (a : Apdu) → fits x → fits (Ok a) → fits (abort_of x a)
   unfolding abort_of
   abort_fits_is x (is.AbortUser n) p q = p
   abort_fits_is x (is.AbortProvider n) p q = q
@@ -65,11 +65,11 @@ module _ (ed : Edition) where
   abort_fits_is x (is.Forward f) p q = p
   abort_fits_is x (is.ForwardResponse n) p q = p
 
-  or_fits : (x y : Decoded) → fits x → fits y → fits (or_abort x y)
+  or_fits : (x y : Result Apdu Refusal) → fits x → fits y → fits (or_abort x y)
   unfolding or_abort
-  or_fits (decoded.Is a) y p q = p
-  or_fits (decoded.Refused r) (decoded.Is a) p q = abort_fits_is (decoded.Refused r) a p q
-  or_fits (decoded.Refused r) (decoded.Refused s) p q = p
+  or_fits (Ok a) y p q = p
+  or_fits (Err r) (Ok a) p q = abort_fits_is (Err r) a p q
+  or_fits (Err r) (Err s) p q = p
 
   pub read_fits : (sd : Side) (c : Control) (p : ServicePrimitive) (s : List ℕ)
       → user_data_fits ed (meaning (read_pdu ed sd c p (lent s))) ≡ true

@@ -32,14 +32,17 @@ use Rattle.machine.specs.declared.event.ServicePrimitive.{ServicePrimitive}
 use Rattle.machine.specs.declared.event.ServicePrimitive.TheVariants.{DStartIndication, DStartConfirmation, DDataIndication, DEndIndication, DEndConfirmation, DAbortIndication, DPAbortIndication}
 use Rattle.machine.specs.declared.event.Event.TheVariants.{User, Forward, Service}
 use Rattle.machine.specs.declared.faults.Fault.{Fault}
-use Rattle.machine.specs.declared.faults.Fault.TheVariants.{NoFault, NoInstruction, Quality, TurnedAway, Security, Missing, Invalid, NotPermitted}
+use Rattle.machine.specs.declared.faults.Fault.TheVariants.{NoInstruction, Quality, TurnedAway, Security, Missing, Invalid, NotPermitted}
 use Rattle.machine.specs.declared.outcome.Outcome.{Outcome}
 use Rattle.machine.specs.declared.outcome.Told.{Told}
-use Rattle.machine.specs.declared.outcome.Told.TheVariants.{Untold, UserAbortIndication, ProviderAbortIndication}
+use Rattle.machine.specs.declared.outcome.Told.TheVariants.{UserAbortIndication, ProviderAbortIndication}
 use Rattle.numbered.specs.Numbers.{refusal_of, numbered_step}
 use Rattle.step.specs.Call.{passes}
 use Rattle.step.specs.Handing.{is_given, is_reply, host_event}
 use Rattle.step.proofs.Taken.{never}
+use Rattle.std.specs.Prelude.{None, Option, Some}
+use Rattle.step.specs.declared.call.HostEvent.{HostEvent}
+use Rattle.step.specs.declared.call.HostEvent.TheVariants as host
 
 -- ---- nothing is handed on
 
@@ -47,11 +50,11 @@ pub record Quiet (o : Outcome) : Type 0 where
   pub told : passes o.told ≡ false
   pub delivers : o.delivers ≡ false
 
-provider_quiet : (t : Bool) (x : ℕ) → passes (cond t (ProviderAbortIndication x) Untold) ≡ false
+provider_quiet : (t : Bool) (x : ℕ) → passes (cond t (Some (ProviderAbortIndication x)) None) ≡ false
 provider_quiet true x = refl
 provider_quiet false x = refl
 
-abort_quiet : (t u : Bool) (x y : ℕ) → passes (cond t (cond u (UserAbortIndication x) (ProviderAbortIndication y)) Untold) ≡ false
+abort_quiet : (t u : Bool) (x y : ℕ) → passes (cond t (cond u (Some (UserAbortIndication x)) (Some (ProviderAbortIndication y))) None) ≡ false
 abort_quiet true true x y = refl
 abort_quiet true false x y = refl
 abort_quiet false u x y = refl
@@ -61,26 +64,26 @@ unfolding excepts aborts closes tell
 excepts_quiet r true p s = record { told = provider_quiet r.active s; delivers = refl }
 excepts_quiet r false p s = record { told = provider_quiet r.active s; delivers = refl }
 
-is_fault : Fault → Bool
-is_fault NoFault = false
-is_fault (NoInstruction live) = true
-is_fault Quality = true
-is_fault TurnedAway = true
-is_fault (Security live) = true
-is_fault Missing = true
-is_fault (Invalid live) = true
-is_fault (NotPermitted live) = true
+is_fault : Option Fault → Bool
+is_fault None = false
+is_fault (Some (NoInstruction live)) = true
+is_fault (Some Quality) = true
+is_fault (Some TurnedAway) = true
+is_fault (Some (Security live)) = true
+is_fault (Some Missing) = true
+is_fault (Some (Invalid live)) = true
+is_fault (Some (NotPermitted live)) = true
 
-fault_quiet : (r : Record) (p : ServicePrimitive) (a : UserData) (f : Fault) → is_fault f ≡ true → Quiet (answered r p a f)
+fault_quiet : (r : Record) (p : ServicePrimitive) (a : UserData) (f : Option Fault) → is_fault f ≡ true → Quiet (answered r p a f)
 unfolding is_fault answered no_instruction aborts closes tell
-fault_quiet r p a NoFault h = never h
-fault_quiet r p a (NoInstruction live) h = by_test Quiet (is_idle r.control) _ _ (λ e. record { told = refl; delivers = refl }) (λ e. excepts_quiet r live _ _)
-fault_quiet r p a Quality h = record { told = refl; delivers = refl }
-fault_quiet r p a TurnedAway h = record { told = provider_quiet r.active _; delivers = refl }
-fault_quiet r p a (Security live) h = excepts_quiet r live _ _
-fault_quiet r p a Missing h = excepts_quiet r true _ _
-fault_quiet r p a (Invalid live) h = excepts_quiet r live _ _
-fault_quiet r p a (NotPermitted live) h = excepts_quiet r live _ _
+fault_quiet r p a None h = never h
+fault_quiet r p a (Some (NoInstruction live)) h = by_test Quiet (is_idle r.control) _ _ (λ e. record { told = refl; delivers = refl }) (λ e. excepts_quiet r live _ _)
+fault_quiet r p a (Some Quality) h = record { told = refl; delivers = refl }
+fault_quiet r p a (Some TurnedAway) h = record { told = provider_quiet r.active _; delivers = refl }
+fault_quiet r p a (Some (Security live)) h = excepts_quiet r live _ _
+fault_quiet r p a (Some Missing) h = excepts_quiet r true _ _
+fault_quiet r p a (Some (Invalid live)) h = excepts_quiet r live _ _
+fault_quiet r p a (Some (NotPermitted live)) h = excepts_quiet r live _ _
 
 -- ---- a forward message is handed on of a forward alone, message data of a start or a send alone; or there are none, where user data may be left out
 
@@ -99,22 +102,22 @@ or_true true = refl
 or_true false = refl
 
 module _ (sd : Side) (r : Record) (a : UserData) where
-  abbrev Fine : ServicePrimitive → Fault → Type 0
+  abbrev Fine : ServicePrimitive → Option Fault → Type 0
   Fine p f = Hands r.edition a (answered r p a f)
 
-  fault : (p : ServicePrimitive) (f : Fault) → is_fault f ≡ true → Fine p f
+  fault : (p : ServicePrimitive) (f : Option Fault) → is_fault f ≡ true → Fine p f
   fault p f h = quiet_hands r.edition a (answered r p a f) (fault_quiet r p a f h)
 
-  pdu_fine : (p : ServicePrimitive) (may fits i u : Bool) (behind : Fault)
+  pdu_fine : (p : ServicePrimitive) (may fits i u : Bool) (behind : Option Fault)
       → ((is_missing a && may) ≡ true → Fine p behind) → (fits ≡ true → Fine p behind)
       → Fine p (pdu_fault may fits i u a behind)
   unfolding is_fault pdu_fault
   pdu_fine p may fits i u behind n k =
-      by_test (Fine p) (is_missing a) _ _ (λ e. by_test (Fine p) may _ _ (λ g. n (rw (e, g))) (λ g. fault p Missing refl))
-      (λ e. by_test (Fine p) (is_invalid a) _ _ (λ g. fault p (Invalid i) refl)
-      (λ g. by_test (Fine p) (not fits) _ _ (λ h. fault p (NotPermitted u) refl) (λ h. k (not-false fits h))))
+      by_test (Fine p) (is_missing a) _ _ (λ e. by_test (Fine p) may _ _ (λ g. n (rw (e, g))) (λ g. fault p (Some Missing) refl))
+      (λ e. by_test (Fine p) (is_invalid a) _ _ (λ g. fault p (Some (Invalid i)) refl)
+      (λ g. by_test (Fine p) (not fits) _ _ (λ h. fault p (Some (NotPermitted u)) refl) (λ h. k (not-false fits h))))
 
-  handed_hands : (q : Record) (x : Primitive) (t : Told) → passes t ≡ false → has_body r.edition a ≡ true
+  handed_hands : (q : Record) (x : Primitive) (t : Option Told) → passes t ≡ false → has_body r.edition a ≡ true
       → Hands r.edition a (handed q x t)
   unfolding handed
   handed_hands q x t n m = record { forward = λ e. never (sym n ∙ e); body = λ e. m }
@@ -128,17 +131,17 @@ module _ (sd : Side) (r : Record) (a : UserData) where
   none_body : (is_missing a && spares r.edition) ≡ true → has_body r.edition a ≡ true
   none_body h = rw h (rw (or_true (is_send a)) (or_true (is_start_pdu a)))
 
-  send_fine : (p : ServicePrimitive) (q : Primitive) (may live : Bool) → ((is_missing a && may) ≡ true → Fine p NoFault)
-      → (is_send a ≡ true → Fine p NoFault) → Fine p (send_fault sd r q may live a)
+  send_fine : (p : ServicePrimitive) (q : Primitive) (may live : Bool) → ((is_missing a && may) ≡ true → Fine p None)
+      → (is_send a ≡ true → Fine p None) → Fine p (send_fault sd r q may live a)
   unfolding is_fault send_fault
   send_fine p q may live n k = by_test (Fine p) (not (expects sd r.control q)) _ _
-      (λ e. fault p (NoInstruction true) refl) (λ e. pdu_fine p may (is_send a) live live NoFault n k)
+      (λ e. fault p (Some (NoInstruction true)) refl) (λ e. pdu_fine p may (is_send a) live live None n k)
 
-  abort_fine : (p : ServicePrimitive) (q : Primitive) (fits : Bool) → Fine p NoFault → Fine p (abort_fault sd r q fits)
+  abort_fine : (p : ServicePrimitive) (q : Primitive) (fits : Bool) → Fine p None → Fine p (abort_fault sd r q fits)
   unfolding is_fault abort_fault
   abort_fine p q fits k =
-      by_test (Fine p) (not (expects sd r.control q)) _ _ (λ e. fault p (NoInstruction false) refl)
-      (λ e. by_test (Fine p) (not fits) _ _ (λ g. fault p (NoInstruction false) refl) (λ g. k))
+      by_test (Fine p) (not (expects sd r.control q)) _ _ (λ e. fault p (Some (NoInstruction false)) refl)
+      (λ e. by_test (Fine p) (not fits) _ _ (λ g. fault p (Some (NoInstruction false)) refl) (λ g. k))
 
   arrives : (s v : ℕ) → is_forward a ≡ true → Hands r.edition a (forward_arrives r s v)
   unfolding forward_arrives responds
@@ -158,7 +161,7 @@ module _ (sd : Side) (r : Record) (a : UserData) where
     abbrev start : ServicePrimitive
     start = DStartIndication x s q v
 
-    indicated : start_fits_of sd r x a ≡ true → Fine start NoFault
+    indicated : start_fits_of sd r x a ≡ true → Fine start None
     unfolding answered instructed
     indicated f = by_test (Hands r.edition a) (is_forward a) _ _ (λ e. arrives s v e)
         (λ e. handed_hands _ _ _ refl (start_body (starts x f e)))
@@ -166,48 +169,48 @@ module _ (sd : Side) (r : Record) (a : UserData) where
     indication_fine : Fine start (indication_fault sd r x s q a)
     unfolding is_fault indication_fault
     indication_fine =
-        by_test (Fine start) (not (is_idle r.control)) _ _ (λ e. fault start (NoInstruction true) refl)
-        (λ e. by_test (Fine start) (not (qos_fits q)) _ _ (λ f. fault start Quality refl)
-        (λ f. by_test (Fine start) (differs (secures r.edition) s r.policy) _ _ (λ g. fault start (Security true) refl)
-        (λ g. pdu_fine start false (start_fits_of sd r x a) true true (cond (peer_fits sd x) NoFault (NoInstruction true)) (λ h. never (both_right (is_missing a) false h))
-        (λ h. by_test (Fine start) (peer_fits sd x) _ _ (λ k. indicated h) (λ k. fault start (NoInstruction true) refl)))))
+        by_test (Fine start) (not (is_idle r.control)) _ _ (λ e. fault start (Some (NoInstruction true)) refl)
+        (λ e. by_test (Fine start) (not (qos_fits q)) _ _ (λ f. fault start (Some Quality) refl)
+        (λ f. by_test (Fine start) (differs (secures r.edition) s r.policy) _ _ (λ g. fault start (Some (Security true)) refl)
+        (λ g. pdu_fine start false (start_fits_of sd r x a) true true (cond (peer_fits sd x) None (Some (NoInstruction true))) (λ h. never (both_right (is_missing a) false h))
+        (λ h. by_test (Fine start) (peer_fits sd x) _ _ (λ k. indicated h) (λ k. fault start (Some (NoInstruction true)) refl)))))
 
   module _ (x o s v : ℕ) where
     abbrev confirmation : ServicePrimitive
     confirmation = DStartConfirmation x o s v
 
-    of_body : has_body r.edition a ≡ true → Fine confirmation NoFault
+    of_body : has_body r.edition a ≡ true → Fine confirmation None
     unfolding answered instructed forward_confirmed closes
     of_body h = by_test (Hands r.edition a) (is_response a) _ _ (λ e. quiet_hands r.edition a _ (record { told = refl; delivers = refl })) (λ e. handed_hands _ _ _ refl h)
 
-    of_send : is_send a ≡ true → Fine confirmation NoFault
+    of_send : is_send a ≡ true → Fine confirmation None
     of_send h = of_body (send_body h)
 
-    of_none : (is_missing a && spares r.edition) ≡ true → Fine confirmation NoFault
+    of_none : (is_missing a && spares r.edition) ≡ true → Fine confirmation None
     of_none h = of_body (none_body h)
 
-    of_response : is_response a ≡ true → Fine confirmation NoFault
+    of_response : is_response a ≡ true → Fine confirmation None
     unfolding answered instructed forward_confirmed closes
     of_response h = by_test (Hands r.edition a) (is_response a) _ _ (λ e. quiet_hands r.edition a _ (record { told = refl; delivers = refl })) (λ e. never (sym e ∙ h))
 
     response_fine : Fine confirmation (response_fault r x o s a)
     unfolding is_fault response_fault
     response_fine =
-        by_test (Fine confirmation) (turned_away x o) _ _ (λ e. fault confirmation TurnedAway refl)
-        (λ e. by_test (Fine confirmation) (differs (secures r.edition) s r.request) _ _ (λ f. fault confirmation (Security (eqb x accepted)) refl)
-        (λ f. by_test (Fine confirmation) (eqb x accepted) _ _ (λ g. pdu_fine confirmation false false true true NoFault
+        by_test (Fine confirmation) (turned_away x o) _ _ (λ e. fault confirmation (Some TurnedAway) refl)
+        (λ e. by_test (Fine confirmation) (differs (secures r.edition) s r.request) _ _ (λ f. fault confirmation (Some (Security (eqb x accepted))) refl)
+        (λ f. by_test (Fine confirmation) (eqb x accepted) _ _ (λ g. pdu_fine confirmation false false true true None
         (λ h. never (both_right (is_missing a) false h)) (λ h. never h)) (λ g. pdu_fine confirmation false
-        (is_response a) false true NoFault (λ h. never (both_right (is_missing a) false h)) of_response)))
+        (is_response a) false true None (λ h. never (both_right (is_missing a) false h)) of_response)))
 
     confirmation_fine : Fine confirmation (confirmation_fault sd r x o s a)
     unfolding is_fault confirmation_fault
     confirmation_fine =
         by_test (Fine confirmation) (not (expects sd r.control (DStartCnf (reply_of x)))) _ _
         (λ e. by_test (Fine confirmation) (awaits_response r.control) _ _ (λ f. response_fine)
-        (λ f. fault confirmation (NoInstruction true) refl))
-        (λ e. by_test (Fine confirmation) (turned_away x o) _ _ (λ f. fault confirmation TurnedAway refl)
-        (λ f. by_test (Fine confirmation) (differs (secures r.edition) s r.request) _ _ (λ g. fault confirmation (Security (eqb x accepted)) refl)
-        (λ g. pdu_fine confirmation (spares r.edition) (send_allowed (spares r.edition) (eqb x accepted) a) (eqb x accepted) true NoFault of_none
+        (λ f. fault confirmation (Some (NoInstruction true)) refl))
+        (λ e. by_test (Fine confirmation) (turned_away x o) _ _ (λ f. fault confirmation (Some TurnedAway) refl)
+        (λ f. by_test (Fine confirmation) (differs (secures r.edition) s r.request) _ _ (λ g. fault confirmation (Some (Security (eqb x accepted))) refl)
+        (λ g. pdu_fine confirmation (spares r.edition) (send_allowed (spares r.edition) (eqb x accepted) a) (eqb x accepted) true None of_none
         (λ h. of_send (both_right (not (spares r.edition && eqb x accepted)) (is_send a) h)))))
 
   first_fine : (p : ServicePrimitive) → Fine p (first_fault sd r p a)
@@ -252,16 +255,16 @@ instructed_replies r (DEndConfirmation x) a = refl
 instructed_replies r (DAbortIndication o) a = refl
 instructed_replies r DPAbortIndication a = refl
 
-answered_replies : (r : Record) (p : ServicePrimitive) (a : UserData) (f : Fault) → Replies (answered r p a f)
+answered_replies : (r : Record) (p : ServicePrimitive) (a : UserData) (f : Option Fault) → Replies (answered r p a f)
 unfolding answered no_instruction aborts closes
-answered_replies r p a NoFault = instructed_replies r p a
-answered_replies r p a (NoInstruction live) = by_test Replies (is_idle r.control) _ _ (λ e. refl) (λ e. excepts_replies r live _ _)
-answered_replies r p a Quality = refl
-answered_replies r p a TurnedAway = refl
-answered_replies r p a (Security live) = excepts_replies r live _ _
-answered_replies r p a Missing = excepts_replies r true _ _
-answered_replies r p a (Invalid live) = excepts_replies r live _ _
-answered_replies r p a (NotPermitted live) = excepts_replies r live _ _
+answered_replies r p a None = instructed_replies r p a
+answered_replies r p a (Some (NoInstruction live)) = by_test Replies (is_idle r.control) _ _ (λ e. refl) (λ e. excepts_replies r live _ _)
+answered_replies r p a (Some Quality) = refl
+answered_replies r p a (Some TurnedAway) = refl
+answered_replies r p a (Some (Security live)) = excepts_replies r live _ _
+answered_replies r p a (Some Missing) = excepts_replies r true _ _
+answered_replies r p a (Some (Invalid live)) = excepts_replies r live _ _
+answered_replies r p a (Some (NotPermitted live)) = excepts_replies r live _ _
 
 pub service_replies : (sd : Side) (r : Record) (p : ServicePrimitive) (a : UserData) → is_reply (step_fitting sd r (Service p a)).apdu ≡ true
 unfolding step_fitting refusal_fitting permitted message_refusal acts reached
@@ -269,17 +272,17 @@ service_replies sd r p a = answered_replies r p a (first_fault sd r p a)
 
 -- ---- an expiry, a system error
 
-host_acts : (sd : Side) (r : Record) (t : Bool) → (Replies (acts sd r (host_event t))) × (Quiet (acts sd r (host_event t)))
+host_acts : (sd : Side) (r : Record) (t : HostEvent) → (Replies (acts sd r (host_event t))) × (Quiet (acts sd r (host_event t)))
 unfolding acts timer_expires system_error closes
-host_acts sd r true = (excepts_replies r true _ _, excepts_quiet r true _ _)
-host_acts sd r false =
+host_acts sd r host.TimerExpires = (excepts_replies r true _ _, excepts_quiet r true _ _)
+host_acts sd r host.SystemError =
     (by_test Replies (is_idle r.control) _ _ (λ e. refl) (λ e. excepts_replies r true _ _), by_test Quiet (is_idle r.control) _ _ (λ e. record { told = refl; delivers = refl }) (λ e. excepts_quiet r true _ _))
 
-pub host_replies : (sd : Side) (r : Record) (t : Bool) → is_reply (step_fitting sd r (host_event t)).apdu ≡ true
+pub host_replies : (sd : Side) (r : Record) (t : HostEvent) → is_reply (step_fitting sd r (host_event t)).apdu ≡ true
 unfolding step_fitting
 host_replies sd r t = by_test Replies (is_none (refusal_fitting sd r (host_event t))) _ _ (λ e. (host_acts sd r t).0) (λ e. refl)
 
-pub host_quiet : (sd : Side) (r : Record) (t : Bool) → Quiet (step_fitting sd r (host_event t))
+pub host_quiet : (sd : Side) (r : Record) (t : HostEvent) → Quiet (step_fitting sd r (host_event t))
 unfolding step_fitting
 host_quiet sd r t = by_test Quiet (is_none (refusal_fitting sd r (host_event t))) _ _ (λ e. (host_acts sd r t).1) (λ e. record { told = refl; delivers = refl })
 

@@ -21,9 +21,9 @@ use Rattle.stored.specs.Stored.{load_at}
 use Rattle.numbered.specs.Numbers.{numbered_step}
 use Rattle.step.specs.Call.{Carried, Called, carries_data, carries_forward, finished, concluded, with_record, entering, pdus_of, user_step, user_call, user_by, forward_step, forward_call, forward_by, data_step, bare_step, service_step, service_call, service_by}
 use Rattle.machine.specs.declared.event.ServicePrimitive.{ServicePrimitive}
-use Rattle.stored.specs.declared.Loaded.{Loaded}
-use Rattle.stored.specs.declared.Loaded.TheVariants.{Is, NoRecord}
 use Rattle.packed.proofs.Unpacked.{refusal_unpacked}
+use Rattle.std.specs.Prelude.{None, Option, Some}
+use Rattle.stored.specs.declared.Stored.{Stored}
 
 -- the low byte of a refusal is not 0
 abbrev pub Leaves : List ℕ → List ℕ → List ℕ → Called → Type 0
@@ -36,11 +36,11 @@ module _ (r a b : List ℕ) where
   concluded_leaves ed sd n o li lm lc d = by_test (Leaves r a b) (is_none o.refusal) _ _
       (λ e n. absurd (n (refusal_unpacked _ _ _ _ _))) (λ e n. (refl, refl, refl))
 
-  with_leaves : (l : Loaded) (k : Side → Record → ℕ → Called)
+  with_leaves : (l : Option Stored) (k : Side → Record → ℕ → Called)
       → ((sd : Side) (x : Record) (n : ℕ) → Leaves r a b (k sd x n)) → Leaves r a b (with_record r a b l k)
   unfolding with_record
-  with_leaves (Is sd x n) k h = h sd x n
-  with_leaves NoRecord k h = λ n. (refl, refl, refl)
+  with_leaves (Some z) k h = h z.side z.machine z.number
+  with_leaves None k h = λ n. (refl, refl, refl)
 
   entering_leaves : (k : Side → Record → ℕ → Called) → ((sd : Side) (x : Record) (n : ℕ) → Leaves r a b (k sd x n))
       → Leaves r a b (entering r a b k)

@@ -30,14 +30,10 @@ use Rattle.pdus.specs.declared.PduType.{PduType}
 use Rattle.pdus.specs.declared.PduType.TheVariants.{AircraftPdus, GroundPdus}
 use Rattle.pdus.specs.declared.Span.{Span}
 use Rattle.apdu.specs.declared.Kind.TheVariants as kind
-use Rattle.apdu.specs.declared.Part.{Part}
-use Rattle.apdu.specs.declared.Part.TheVariants as part
 use Rattle.apdu.specs.declared.Data.{Data}
 use Rattle.apdu.specs.declared.Forward.{Forward as Forwarded}
 use Rattle.apdu.specs.declared.Apdu.{Apdu}
 use Rattle.apdu.specs.declared.Apdu.TheVariants as is
-use Rattle.apdu.specs.declared.Decoded.{Decoded}
-use Rattle.apdu.specs.declared.Decoded.TheVariants as decoded
 use Rattle.apdu.proofs.Contents.{DataIs}
 use Rattle.apdu.proofs.Bounds.{counted, items_fits, data_fits_is, content_most, content_most_is, data_value_fits}
 use Rattle.apdu.proofs.Apdus.{apdu_read}
@@ -56,6 +52,8 @@ use Rattle.step.specs.Handing.{came, send_at, start_at, root_of, body_of, arriva
 use Rattle.step.specs.declared.arrived.Arrival.{Arrival}
 use Rattle.step.proofs.Hands.{Hands}
 use Rattle.step.proofs.Taken.{never}
+use Rattle.std.specs.Prelude.{Err, None, Ok, Option, Result, Some}
+use Rattle.fields.specs.declared.Refusal.{Refusal}
 
 -- ---- where message data begin
 
@@ -133,11 +131,11 @@ span_run l m x h =
 one_each : (n : ℕ) → bit * n ≡ n
 one_each n = omega arith
 
-message_body : (l : List ℕ) (m : UserData) (p : ℕ) (d : Data) (x : Part) → d.message ≡ x → data_fits l l l d ≡ true
+message_body : (l : List ℕ) (m : UserData) (p : ℕ) (d : Data) (x : Option Span) → d.message ≡ x → data_fits l l l d ≡ true
     → part_fits l bit 0 message_most x ≡ true → Body Plain l m p d
 unfolding part_fits content_in part_in bits_in bits_n
-message_body l m p d part.Absent e h f = record { fits = h; run = rw e (bare_run l m); bits = rw e refl }
-message_body l m p d (part.Given x) e h f = record { fits = h; run = rw e (span_run l m x f); bits = rw (e, one_each x.count) refl }
+message_body l m p d None e h f = record { fits = h; run = rw e (bare_run l m); bits = rw e refl }
+message_body l m p d (Some x) e h f = record { fits = h; run = rw e (span_run l m x f); bits = rw (e, one_each x.count) refl }
 
 plain_body : (l : List ℕ) (m : UserData) (p : ℕ) (d : Data) → data_fits l l l d ≡ true → Body Plain l m p d
 plain_body l m p d h = message_body l m p d d.message refl h (data_fits_is l l l d h).message
@@ -184,7 +182,7 @@ pub lead_few : (ed : Edition) (n : ℕ) → n ≡ lead_of ed → n ≤ 1
 lead_few Plain n e = omega (arith, e)
 lead_few Protected n e = omega (arith, e)
 
-pub record Handed (ed : Edition) (l : List ℕ) (t : PduType) (y : Decoded) : Type 0 where
+pub record Handed (ed : Edition) (l : List ℕ) (t : PduType) (y : Result Apdu Refusal) : Type 0 where
   pub run : Run l (arrival_of ed t y)
   pub second : (o : Outcome) (b : List ℕ) → Hands ed (meaning y) o
       → second_takes ed l l l (carried_by y) (passes o.told) o.delivers b ≡ delivered_of ed l (arrival_of ed t y) o b
@@ -194,67 +192,67 @@ module _ (t : PduType) (s : List ℕ) where
   bits = bits_to_is s all_bits
 
   -- a start or a send of type 22
-  start_is : (m : ℕ) (d : Data) (e : reading.apdu_at t (lent s) 0 ≡ decoded.Is (is.Start m d))
+  start_is : (m : ℕ) (d : Data) (e : reading.apdu_at t (lent s) 0 ≡ Ok (is.Start m d))
       → DataIs (lent s) (start_at t m) (apdu_read t (lent s) 0 (is.Start m d) bits e).place d
   start_is m d e =
       let i = (apdu_read t (lent s) 0 (is.Start m d) bits e).stands in
       subst (λ (z : ℕ). DataIs (lent s) z (apdu_read t (lent s) 0 (is.Start m d) bits e).place d)
       (start_place t m (lent s) i.place i.lead) i.held
 
-  send_is : (d : Data) (e : reading.apdu_at t (lent s) 0 ≡ decoded.Is (is.Send d))
+  send_is : (d : Data) (e : reading.apdu_at t (lent s) 0 ≡ Ok (is.Send d))
       → DataIs (lent s) (send_at t) (apdu_read t (lent s) 0 (is.Send d) bits e).place d
   send_is d e =
       let i = (apdu_read t (lent s) 0 (is.Send d) bits e).stands in
       subst (λ (z : ℕ). DataIs (lent s) z (apdu_read t (lent s) 0 (is.Send d) bits e).place d)
       (send_place t (lent s) i.place i.lead) i.held
 
-  protected_is : (a : Apdu) → apdu_at Protected t (lent s) ≡ decoded.Is a → reading.apdu_at t (lent s) 0 ≡ decoded.Is a
+  protected_is : (a : Apdu) → apdu_at Protected t (lent s) ≡ Ok a → reading.apdu_at t (lent s) 0 ≡ Ok a
   protected_is a e = sym (apdu_same t (lent s)) ∙ e
 
   -- of either type
-  start_body : (ed : Edition) (u : UserData) (m : ℕ) (d : Data) → apdu_at ed t (lent s) ≡ decoded.Is (is.Start m d)
+  start_body : (ed : Edition) (u : UserData) (m : ℕ) (d : Data) → apdu_at ed t (lent s) ≡ Ok (is.Start m d)
       → Body ed (lent s) u (start_at t m) d
   unfolding apdu_fits
   start_body Plain u m d e = plain_body (lent s) u (start_at t m) d (both_right (mode_fits t m)
       (data_fits (lent s) (lent s) (lent s) d) ((laws Plain).accepted t (lent s) (is.Start m d) bits e).placed_fits)
   start_body Protected u m d e = root_body (lent s) (start_at t m) _ d (start_is m d (protected_is (is.Start m d) e)) u
 
-  send_body : (ed : Edition) (u : UserData) (d : Data) → apdu_at ed t (lent s) ≡ decoded.Is (is.Send d) → Body ed (lent s) u (send_at t) d
+  send_body : (ed : Edition) (u : UserData) (d : Data) → apdu_at ed t (lent s) ≡ Ok (is.Send d) → Body ed (lent s) u (send_at t) d
   unfolding apdu_fits
   send_body Plain u d e = plain_body (lent s) u (send_at t) d ((laws Plain).accepted t (lent s) (is.Send d) bits e).placed_fits
   send_body Protected u d e = root_body (lent s) (send_at t) _ d (send_is d (protected_is (is.Send d) e)) u
 
   module _ (ed : Edition) where
-    read_handed : (y : Decoded) → apdu_at ed t (lent s) ≡ y → Handed ed (lent s) t y
+    read_handed : (y : Result Apdu Refusal) → apdu_at ed t (lent s) ≡ y → Handed ed (lent s) t y
     unfolding arrival_of meaning data_of forward_of bits_n
-    read_handed (decoded.Refused r) e = record { run = bare_run (lent s) _; second = λ o b h. bare_second ed (lent s) o b _ _ (no _ h.forward) (no _ h.body) }
-    read_handed (decoded.Is (is.AbortUser r)) e = record { run = bare_run (lent s) _; second = λ o b h. bare_second ed (lent s) o b _ _ (no _ h.forward) (no _ h.body) }
-    read_handed (decoded.Is (is.AbortProvider r)) e = record { run = bare_run (lent s) _; second = λ o b h. bare_second ed (lent s) o b _ _ (no _ h.forward) (no _ h.body) }
-    read_handed (decoded.Is (is.Start m d)) e =
-        let i = start_body ed (meaning (decoded.Is (is.Start m d))) m d e in
+    read_handed (Err r) e = record { run = bare_run (lent s) _; second = λ o b h. bare_second ed (lent s) o b _ _ (no _ h.forward) (no _ h.body) }
+    read_handed (Ok (is.AbortUser r)) e = record { run = bare_run (lent s) _; second = λ o b h. bare_second ed (lent s) o b _ _ (no _ h.forward) (no _ h.body) }
+    read_handed (Ok (is.AbortProvider r)) e = record { run = bare_run (lent s) _; second = λ o b h. bare_second ed (lent s) o b _ _ (no _ h.forward) (no _ h.body) }
+    read_handed (Ok (is.Start m d)) e =
+        let i = start_body ed (meaning (Ok (is.Start m d))) m d e in
         record { run = i.run; second = λ o b h. data_second ed (lent s) o b (carries d no_forward) _ i.fits i.bits (no _ h.forward) }
-    read_handed (decoded.Is (is.Send d)) e =
-        let i = send_body ed (meaning (decoded.Is (is.Send d))) d e in
+    read_handed (Ok (is.Send d)) e =
+        let i = send_body ed (meaning (Ok (is.Send d))) d e in
         record { run = i.run; second = λ o b h. data_second ed (lent s) o b (carries d no_forward) _ i.fits i.bits (no _ h.forward) }
-    read_handed (decoded.Is (is.Forward f)) e =
+    read_handed (Ok (is.Forward f)) e =
         let i = (laws ed).forward_run t (lent s) f bits e in
-        record { run = record { there = omega (arith, i.from, i.within); few = i.few }; second = λ o b h. forward_second ed (lent s) o b (carried_by (decoded.Is (is.Forward f))) _ i.fits i.bits (no _ h.body) }
-    read_handed (decoded.Is (is.ForwardResponse x)) e = record { run = bare_run (lent s) _; second = λ o b h. bare_second ed (lent s) o b _ _ (no _ h.forward) (no _ h.body) }
+        record { run = record { there = omega (arith, i.from, i.within); few = i.few }; second = λ o b h. forward_second ed (lent s) o b (carried_by (Ok (is.Forward f))) _ i.fits i.bits (no _ h.body) }
+    read_handed (Ok (is.ForwardResponse x)) e = record { run = bare_run (lent s) _; second = λ o b h. bare_second ed (lent s) o b _ _ (no _ h.forward) (no _ h.body) }
 
   -- places of what was read are numbers of the machine
-  start_ends : (m : ℕ) (d : Data) → reading.apdu_at t (lent s) 0 ≡ decoded.Is (is.Start m d)
+  start_ends : (m : ℕ) (d : Data) → reading.apdu_at t (lent s) 0 ≡ Ok (is.Start m d)
       → (start_at t m + 1 ≤ d.check.at + d.check.count) × (d.check.at + d.check.count < 2 ^ 64)
   start_ends m d e =
       let k = data_ends (lent s) (start_at t m) _ d (start_is m d e) in
       (k.0, omega (arith, k.1, length_to s all_bits))
 
-  send_ends : (d : Data) → reading.apdu_at t (lent s) 0 ≡ decoded.Is (is.Send d)
+  send_ends : (d : Data) → reading.apdu_at t (lent s) 0 ≡ Ok (is.Send d)
       → (send_at t + 1 ≤ d.check.at + d.check.count) × (d.check.at + d.check.count < 2 ^ 64)
   send_ends d e =
       let k = data_ends (lent s) (send_at t) _ d (send_is d e) in
       (k.0, omega (arith, k.1, length_to s all_bits))
 
-  forward_ends : (ed : Edition) (f : Forwarded) → apdu_at ed t (lent s) ≡ decoded.Is (is.Forward f)
+  forward_ends : (ed : Edition) (f : Forwarded) → apdu_at ed t (lent s) ≡ Ok (is.Forward f)
       → (4 ≤ f.message.at + f.message.count) × (f.message.at + f.message.count < 2 ^ 64)
   forward_ends ed f e =
       let i = (laws ed).forward_run t (lent s) f bits e in
@@ -262,8 +260,8 @@ module _ (t : PduType) (s : List ℕ) where
 
 -- ---- with a second reading
 
-module _ (P : Decoded → Type 0) (k : (r : ℕ) → P (decoded.Is (is.AbortProvider r))) where
-  abort_by : (x : Decoded) (a : Apdu) → P x → P (abort_of x a)
+module _ (P : Result Apdu Refusal → Type 0) (k : (r : ℕ) → P (Ok (is.AbortProvider r))) where
+  abort_by : (x : Result Apdu Refusal) (a : Apdu) → P x → P (abort_of x a)
   unfolding abort_of
   abort_by x (is.AbortUser r) q = q
   abort_by x (is.AbortProvider r) q = k r
@@ -272,18 +270,18 @@ module _ (P : Decoded → Type 0) (k : (r : ℕ) → P (decoded.Is (is.AbortProv
   abort_by x (is.Forward f) q = q
   abort_by x (is.ForwardResponse n) q = q
 
-  or_by : (x y : Decoded) → P x → P (or_abort x y)
+  or_by : (x y : Result Apdu Refusal) → P x → P (or_abort x y)
   unfolding or_abort
-  or_by (decoded.Is a) y q = q
-  or_by (decoded.Refused r) (decoded.Is a) q = abort_by (decoded.Refused r) a q
-  or_by (decoded.Refused r) (decoded.Refused z) q = q
+  or_by (Ok a) y q = q
+  or_by (Err r) (Ok a) q = abort_by (Err r) a q
+  or_by (Err r) (Err z) q = q
 
   read_by : (ed : Edition) (sd : Side) (c : Control) (p : ServicePrimitive) (l : List ℕ)
       → P (apdu_at ed (reads_as sd c p) l) → P (read_pdu ed sd c p l)
   unfolding read_pdu
   read_by ed sd c p l h = by_test P (reads_again sd p) _ _ (λ e. or_by (apdu_at ed (reads_as sd c p) l) (apdu_at ed GroundPdus l) h) (λ e. h)
 
-abort_handed : (ed : Edition) (l : List ℕ) (t : PduType) (r : ℕ) → Handed ed l t (decoded.Is (is.AbortProvider r))
+abort_handed : (ed : Edition) (l : List ℕ) (t : PduType) (r : ℕ) → Handed ed l t (Ok (is.AbortProvider r))
 unfolding arrival_of meaning
 abort_handed ed l t r = record { run = bare_run l _; second = λ o b h. bare_second ed l o b _ _ (no _ h.forward) (no _ h.body) }
 
@@ -295,22 +293,22 @@ pdu_handed ed sd c p s = read_by (Handed ed (lent s) (reads_as sd c p)) (abort_h
 body_pdu : (ed : Edition) (m : UserData) (p : ℕ) (d : Data) → (body_of ed m p d).pdu ≡ m
 body_pdu Plain m p d = go d.message refl
   where
-    go : (x : Part) → d.message ≡ x → (body_of Plain m p d).pdu ≡ m
-    go part.Absent e = rw e refl
-    go (part.Given x) e = rw e refl
+    go : (x : Option Span) → d.message ≡ x → (body_of Plain m p d).pdu ≡ m
+    go None e = rw e refl
+    go (Some x) e = rw e refl
 body_pdu Protected m p d = refl
 
-pub arrival_pdu : (ed : Edition) (t : PduType) (y : Decoded) → (arrival_of ed t y).pdu ≡ meaning y
+pub arrival_pdu : (ed : Edition) (t : PduType) (y : Result Apdu Refusal) → (arrival_of ed t y).pdu ≡ meaning y
 unfolding arrival_of meaning
-arrival_pdu ed t (decoded.Refused r) = refl
-arrival_pdu ed t (decoded.Is (is.AbortUser r)) = refl
-arrival_pdu ed t (decoded.Is (is.AbortProvider r)) = refl
-arrival_pdu ed t (decoded.Is (is.Start m d)) = body_pdu ed _ (start_at t m) d
-arrival_pdu ed t (decoded.Is (is.Send d)) = body_pdu ed _ (send_at t) d
-arrival_pdu ed t (decoded.Is (is.Forward f)) = refl
-arrival_pdu ed t (decoded.Is (is.ForwardResponse x)) = refl
+arrival_pdu ed t (Err r) = refl
+arrival_pdu ed t (Ok (is.AbortUser r)) = refl
+arrival_pdu ed t (Ok (is.AbortProvider r)) = refl
+arrival_pdu ed t (Ok (is.Start m d)) = body_pdu ed _ (start_at t m) d
+arrival_pdu ed t (Ok (is.Send d)) = body_pdu ed _ (send_at t) d
+arrival_pdu ed t (Ok (is.Forward f)) = refl
+arrival_pdu ed t (Ok (is.ForwardResponse x)) = refl
 
-again_of : (ed : Edition) (t : PduType) (x : Decoded) (a : Apdu) → abort_in (arrival_of ed t x) a ≡ arrival_of ed t (abort_of x a)
+again_of : (ed : Edition) (t : PduType) (x : Result Apdu Refusal) (a : Apdu) → abort_in (arrival_of ed t x) a ≡ arrival_of ed t (abort_of x a)
 unfolding abort_in abort_of arrival_of
 again_of ed t x (is.AbortUser r) = refl
 again_of ed t x (is.AbortProvider r) = refl
@@ -320,20 +318,20 @@ again_of ed t x (is.Forward f) = refl
 again_of ed t x (is.ForwardResponse n) = refl
 
 -- what was read is not read again
-read_stays : (x : Arrival) (m : UserData) (y : Decoded) → x.pdu ≡ m → is_invalid m ≡ false → or_again x y ≡ x
+read_stays : (x : Arrival) (m : UserData) (y : Result Apdu Refusal) → x.pdu ≡ m → is_invalid m ≡ false → or_again x y ≡ x
 unfolding or_again
 read_stays x m y e h = rw (e, h)
 
-pub again_same : (ed : Edition) (t : PduType) (x y : Decoded) → or_again (arrival_of ed t x) y ≡ arrival_of ed t (or_abort x y)
+pub again_same : (ed : Edition) (t : PduType) (x y : Result Apdu Refusal) → or_again (arrival_of ed t x) y ≡ arrival_of ed t (or_abort x y)
 unfolding or_again again arrival_of or_abort
-again_same ed t (decoded.Is (is.AbortUser r)) y = refl
-again_same ed t (decoded.Is (is.AbortProvider r)) y = refl
-again_same ed t (decoded.Is (is.Start m d)) y = read_stays _ _ y (body_pdu ed (Start (eqb m 1)) (start_at t m) d) refl
-again_same ed t (decoded.Is (is.Send d)) y = read_stays _ _ y (body_pdu ed Send (send_at t) d) refl
-again_same ed t (decoded.Is (is.Forward f)) y = refl
-again_same ed t (decoded.Is (is.ForwardResponse n)) y = refl
-again_same ed t (decoded.Refused r) (decoded.Is a) = again_of ed t (decoded.Refused r) a
-again_same ed t (decoded.Refused r) (decoded.Refused z) = refl
+again_same ed t (Ok (is.AbortUser r)) y = refl
+again_same ed t (Ok (is.AbortProvider r)) y = refl
+again_same ed t (Ok (is.Start m d)) y = read_stays _ _ y (body_pdu ed (Start (eqb m 1)) (start_at t m) d) refl
+again_same ed t (Ok (is.Send d)) y = read_stays _ _ y (body_pdu ed Send (send_at t) d) refl
+again_same ed t (Ok (is.Forward f)) y = refl
+again_same ed t (Ok (is.ForwardResponse n)) y = refl
+again_same ed t (Err r) (Ok a) = again_of ed t (Err r) a
+again_same ed t (Err r) (Err z) = refl
 
 pub arrived_run : (ed : Edition) (sd : Side) (c : Control) (p : ServicePrimitive) (g : ℕ) (s : List ℕ)
     → Run (lent s) (arrived ed sd c p g (lent s))
@@ -348,12 +346,12 @@ stands_there ed sd c p g s x e =
 
 -- ---- the ways of reading, as the code has them
 
-module _ (ed : Edition) (t : PduType) (s : List ℕ) (y : Decoded) (a : Apdu) (ey : y ≡ apdu_at ed t (lent s)) (ea : y ≡ decoded.Is a) where
-  was_read : (z : Apdu) → a ≡ z → apdu_at ed t (lent s) ≡ decoded.Is z
-  was_read z e = sym ey ∙ ea ∙ ap decoded.Is e
+module _ (ed : Edition) (t : PduType) (s : List ℕ) (y : Result Apdu Refusal) (a : Apdu) (ey : y ≡ apdu_at ed t (lent s)) (ea : y ≡ Ok a) where
+  was_read : (z : Apdu) → a ≡ z → apdu_at ed t (lent s) ≡ Ok z
+  was_read z e = sym ey ∙ ea ∙ ap Ok e
 
-  was_protected : (z : Apdu) → a ≡ z → ed ≡ Protected → reading.apdu_at t (lent s) 0 ≡ decoded.Is z
-  was_protected z e q = protected_is t s z (subst (λ (x : Edition). apdu_at x t (lent s) ≡ decoded.Is z) q (was_read z e))
+  was_protected : (z : Apdu) → a ≡ z → ed ≡ Protected → reading.apdu_at t (lent s) 0 ≡ Ok z
+  was_protected z e q = protected_is t s z (subst (λ (x : Edition). apdu_at x t (lent s) ≡ Ok z) q (was_read z e))
 
   pub start_needs : (m : ℕ) (d : Data) (at : ℕ) → at ≡ start_at t m → a ≡ is.Start m d → ed ≡ Protected
       → (at + 1 ≤ d.check.at + d.check.count) × (d.check.at + d.check.count < 2 ^ 64)
@@ -371,7 +369,7 @@ module _ (ed : Edition) (t : PduType) (s : List ℕ) (y : Decoded) (a : Apdu) (e
       → (4 ≤ f.message.at + f.message.count) × (f.message.at + f.message.count < 2 ^ 64)
   forward_needs f e = forward_ends t s ed f (was_read (is.Forward f) e)
 
-  pub says : (z : Apdu) (x : Arrival) → a ≡ z → x ≡ arrival_of ed t (decoded.Is z) → x ≡ arrival_of ed t (apdu_at ed t (lent s))
+  pub says : (z : Apdu) (x : Arrival) → a ≡ z → x ≡ arrival_of ed t (Ok z) → x ≡ arrival_of ed t (apdu_at ed t (lent s))
   says z x e p = p ∙ ap (arrival_of ed t) (sym (was_read z e))
 
 module _ (ed : Edition) (sd : Side) (c : Control) (p : ServicePrimitive) (g : ℕ) (l : List ℕ) where

@@ -46,11 +46,11 @@ use Rattle.machine.specs.declared.event.Event.{Event}
 use Rattle.machine.specs.declared.event.Event.TheVariants.{User, Service, TimerExpires, UnrecoverableSystemError}
 use Rattle.machine.specs.declared.event.Event.TheVariants.{Forward as ForwardRequested}
 use Rattle.machine.specs.declared.faults.Fault.{Fault}
-use Rattle.machine.specs.declared.faults.Fault.TheVariants.{NoFault, NoInstruction, Quality, TurnedAway, Security, Missing, Invalid, NotPermitted}
+use Rattle.machine.specs.declared.faults.Fault.TheVariants.{NoInstruction, Quality, TurnedAway, Security, Missing, Invalid, NotPermitted}
 use Rattle.machine.specs.declared.outcome.Invoked.{Invoked}
-use Rattle.machine.specs.declared.outcome.Invoked.TheVariants.{Silent, DStartRequest, DStartResponse, DDataRequest, DEndRequest, DEndResponse, DAbortRequest, DStartForwardRequest, DStartForwardResponse}
+use Rattle.machine.specs.declared.outcome.Invoked.TheVariants.{DStartRequest, DStartResponse, DDataRequest, DEndRequest, DEndResponse, DAbortRequest, DStartForwardRequest, DStartForwardResponse}
 use Rattle.machine.specs.declared.outcome.Told.{Told}
-use Rattle.machine.specs.declared.outcome.Told.TheVariants.{Untold, StartIndication, StartConfirmation, MessageIndication, EndIndication, EndConfirmation, UserAbortIndication, ProviderAbortIndication, ForwardIndication, ForwardConfirmation}
+use Rattle.machine.specs.declared.outcome.Told.TheVariants.{StartIndication, StartConfirmation, MessageIndication, EndIndication, EndConfirmation, UserAbortIndication, ProviderAbortIndication, ForwardIndication, ForwardConfirmation}
 use Rattle.machine.specs.declared.outcome.StepRefusal.TheVariants.{Stale}
 use Rattle.machine.specs.declared.outcome.Outcome.{Outcome}
 use Rattle.numbered.specs.Numbers.{is_stale, numbered_step}
@@ -59,6 +59,7 @@ use Rattle.packed.specs.Packed.{codes}
 use Rattle.stored.specs.Stored.{flag}
 use Rattle.step.specs.Call.{pdus_of, passes}
 pub use Rattle.stored.proofs.Storing.{Coded}
+use Rattle.std.specs.Prelude.{None, Option, Some}
 
 -- ---- what is shown
 
@@ -116,52 +117,52 @@ brings ed TimerExpires = hears Absent
 brings ed UnrecoverableSystemError = hears Absent
 
 -- a primitive that is invoked has such an APDU; a user primitive invokes one; where none is invoked there is no APDU
-abbrev pub GoesOut : Edition → Bool → Side → Invoked → UserData → Type 0
-GoesOut ed u sd Silent a = (u ≡ false) × (a ≡ Absent)
-GoesOut ed u sd (DStartRequest q s) a = writable ed sd a ≡ true
-GoesOut ed u sd (DStartResponse x s) a = writable ed sd a ≡ true
-GoesOut ed u sd DDataRequest a = writable ed sd a ≡ true
-GoesOut ed u sd DEndRequest a = writable ed sd a ≡ true
-GoesOut ed u sd (DEndResponse x) a = writable ed sd a ≡ true
-GoesOut ed u sd (DAbortRequest o) a = writable ed sd a ≡ true
-GoesOut ed u sd (DStartForwardRequest q s v) a = ⊥
-GoesOut ed u sd (DStartForwardResponse s v) a = ⊥
+abbrev pub GoesOut : Edition → Bool → Side → Option Invoked → UserData → Type 0
+GoesOut ed u sd None a = (u ≡ false) × (a ≡ Absent)
+GoesOut ed u sd (Some (DStartRequest q s)) a = writable ed sd a ≡ true
+GoesOut ed u sd (Some (DStartResponse x s)) a = writable ed sd a ≡ true
+GoesOut ed u sd (Some DDataRequest) a = writable ed sd a ≡ true
+GoesOut ed u sd (Some DEndRequest) a = writable ed sd a ≡ true
+GoesOut ed u sd (Some (DEndResponse x)) a = writable ed sd a ≡ true
+GoesOut ed u sd (Some (DAbortRequest o)) a = writable ed sd a ≡ true
+GoesOut ed u sd (Some (DStartForwardRequest q s v)) a = ⊥
+GoesOut ed u sd (Some (DStartForwardResponse s v)) a = ⊥
 
-abbrev pub is_ddata : Invoked → Bool
-is_ddata Silent = false
-is_ddata (DStartRequest q s) = false
-is_ddata (DStartResponse x s) = false
-is_ddata DDataRequest = true
-is_ddata DEndRequest = false
-is_ddata (DEndResponse x) = false
-is_ddata (DAbortRequest o) = false
-is_ddata (DStartForwardRequest q s v) = false
-is_ddata (DStartForwardResponse s v) = false
+abbrev pub is_ddata : Option Invoked → Bool
+is_ddata None = false
+is_ddata (Some (DStartRequest q s)) = false
+is_ddata (Some (DStartResponse x s)) = false
+is_ddata (Some DDataRequest) = true
+is_ddata (Some DEndRequest) = false
+is_ddata (Some (DEndResponse x)) = false
+is_ddata (Some (DAbortRequest o)) = false
+is_ddata (Some (DStartForwardRequest q s v)) = false
+is_ddata (Some (DStartForwardResponse s v)) = false
 
 -- its parameter has room in four bits and its security value in one, and the quality of service that is not in the number is the right one
-abbrev pub Roomy : Invoked → Type 0
-Roomy Silent = Unit {0}
-Roomy (DStartRequest q s) = (q ≡ qos_asked q.routing) × (q.routing < codes) × (s < 2)
-Roomy (DStartResponse x s) = (x < codes) × (s < 2)
-Roomy DDataRequest = Unit {0}
-Roomy DEndRequest = Unit {0}
-Roomy (DEndResponse x) = x < codes
-Roomy (DAbortRequest o) = o < codes
-Roomy (DStartForwardRequest q s v) = ⊥
-Roomy (DStartForwardResponse s v) = ⊥
+abbrev pub Roomy : Option Invoked → Type 0
+Roomy None = Unit {0}
+Roomy (Some (DStartRequest q s)) = (q ≡ qos_asked q.routing) × (q.routing < codes) × (s < 2)
+Roomy (Some (DStartResponse x s)) = (x < codes) × (s < 2)
+Roomy (Some DDataRequest) = Unit {0}
+Roomy (Some DEndRequest) = Unit {0}
+Roomy (Some (DEndResponse x)) = x < codes
+Roomy (Some (DAbortRequest o)) = o < codes
+Roomy (Some (DStartForwardRequest q s v)) = ⊥
+Roomy (Some (DStartForwardResponse s v)) = ⊥
 
 -- no message indication
-abbrev pub quiet : Told → Bool
-quiet Untold = true
-quiet (StartIndication m k) = true
-quiet (StartConfirmation m x) = true
-quiet MessageIndication = false
-quiet (EndIndication m) = true
-quiet (EndConfirmation m x) = true
-quiet (UserAbortIndication x) = true
-quiet (ProviderAbortIndication x) = true
-quiet ForwardIndication = true
-quiet (ForwardConfirmation x v) = true
+abbrev pub quiet : Option Told → Bool
+quiet None = true
+quiet (Some (StartIndication m k)) = true
+quiet (Some (StartConfirmation m x)) = true
+quiet (Some MessageIndication) = false
+quiet (Some (EndIndication m)) = true
+quiet (Some (EndConfirmation m x)) = true
+quiet (Some (UserAbortIndication x)) = true
+quiet (Some (ProviderAbortIndication x)) = true
+quiet (Some ForwardIndication) = true
+quiet (Some (ForwardConfirmation x v)) = true
 
 pub record Fit (ed : Edition) (sd : Side) (v : Brings) (o : Outcome) : Type 0 where
   pub coded : Coded o.next
@@ -200,27 +201,27 @@ JobLow sd TimerExpires = Unit {0}
 JobLow sd UnrecoverableSystemError = Unit {0}
 
 -- a primitive of a dialogue
-abbrev pub is_dialogue : Invoked → Bool
-is_dialogue Silent = true
-is_dialogue (DStartRequest q s) = true
-is_dialogue (DStartResponse x s) = true
-is_dialogue DDataRequest = true
-is_dialogue DEndRequest = true
-is_dialogue (DEndResponse x) = true
-is_dialogue (DAbortRequest o) = true
-is_dialogue (DStartForwardRequest q s v) = false
-is_dialogue (DStartForwardResponse s v) = false
+abbrev pub is_dialogue : Option Invoked → Bool
+is_dialogue None = true
+is_dialogue (Some (DStartRequest q s)) = true
+is_dialogue (Some (DStartResponse x s)) = true
+is_dialogue (Some DDataRequest) = true
+is_dialogue (Some DEndRequest) = true
+is_dialogue (Some (DEndResponse x)) = true
+is_dialogue (Some (DAbortRequest o)) = true
+is_dialogue (Some (DStartForwardRequest q s v)) = false
+is_dialogue (Some (DStartForwardResponse s v)) = false
 
-pub roomy_dialogue : (i : Invoked) → Roomy i → is_dialogue i ≡ true
-roomy_dialogue Silent h = refl
-roomy_dialogue (DStartRequest q s) h = refl
-roomy_dialogue (DStartResponse x s) h = refl
-roomy_dialogue DDataRequest h = refl
-roomy_dialogue DEndRequest h = refl
-roomy_dialogue (DEndResponse x) h = refl
-roomy_dialogue (DAbortRequest o) h = refl
-roomy_dialogue (DStartForwardRequest q s v) h = absurd h
-roomy_dialogue (DStartForwardResponse s v) h = absurd h
+pub roomy_dialogue : (i : Option Invoked) → Roomy i → is_dialogue i ≡ true
+roomy_dialogue None h = refl
+roomy_dialogue (Some (DStartRequest q s)) h = refl
+roomy_dialogue (Some (DStartResponse x s)) h = refl
+roomy_dialogue (Some DDataRequest) h = refl
+roomy_dialogue (Some DEndRequest) h = refl
+roomy_dialogue (Some (DEndResponse x)) h = refl
+roomy_dialogue (Some (DAbortRequest o)) h = refl
+roomy_dialogue (Some (DStartForwardRequest q s v)) h = absurd h
+roomy_dialogue (Some (DStartForwardResponse s v)) h = absurd h
 
 -- ---- a primitive, an expiry, a system error
 
@@ -228,34 +229,34 @@ pub never : {A : Type 0} → false ≡ true → A
 never e = absurd (subst T (sym e) tt)
 
 module _ (sd : Side) (r : Record) (k : Coded r) (w : awaits_response r.control ≡ false) (a : UserData) where
-  closed_fits : (t : Told) → quiet t ≡ true → passes t ≡ false → Fit r.edition sd (hears a) (closes r t)
+  closed_fits : (t : Option Told) → quiet t ≡ true → passes t ≡ false → Fit r.edition sd (hears a) (closes r t)
   unfolding closes enter
   closed_fits t q z = record { coded = record { request = k.request; policy = k.policy; least = k.least; most = k.most; highest = k.highest }; edition = refl; apdu = (refl, refl); body = refl; sends = λ e f. never f; invokes = refl; roomy = tt; told = rw q; dialogue = refl; plain = z }
 
-  aborted_fits : (p : ℕ) (t : Told) → whole_fits 0 provider_last p ≡ true → quiet t ≡ true → passes t ≡ false
+  aborted_fits : (p : ℕ) (t : Option Told) → whole_fits 0 provider_last p ≡ true → quiet t ≡ true → passes t ≡ false
       → Fit r.edition sd (hears a) (aborts r p t)
   unfolding aborts enter
   aborted_fits p t h q z = record { coded = record { request = k.request; policy = k.policy; least = k.least; most = k.most; highest = k.highest }; edition = refl; apdu = h; body = refl; sends = λ e f. never f; invokes = refl; roomy = omega arith; told = rw q; dialogue = refl; plain = z }
 
-  tell_quiet : (t : Told) → quiet t ≡ true → quiet (tell r t) ≡ true
+  tell_quiet : (t : Option Told) → quiet t ≡ true → quiet (tell r t) ≡ true
   unfolding tell
-  tell_quiet t q = by_test (λ (x : Told). quiet x ≡ true) r.active t Untold (λ e. q) (λ e. refl)
+  tell_quiet t q = by_test (λ (x : Option Told). quiet x ≡ true) r.active t None (λ e. q) (λ e. refl)
 
-  tell_plain : (t : Told) → passes t ≡ false → passes (tell r t) ≡ false
+  tell_plain : (t : Option Told) → passes t ≡ false → passes (tell r t) ≡ false
   unfolding tell
-  tell_plain t q = by_test (λ (x : Told). passes x ≡ false) r.active t Untold (λ e. q) (λ e. refl)
+  tell_plain t q = by_test (λ (x : Option Told). passes x ≡ false) r.active t None (λ e. q) (λ e. refl)
 
   except_fits : (o : Bool) (p s : ℕ) → whole_fits 0 provider_last p ≡ true → Fit r.edition sd (hears a) (excepts r o p s)
   unfolding excepts
-  except_fits true p s h = aborted_fits p _ h (tell_quiet (ProviderAbortIndication s) refl) (tell_plain (ProviderAbortIndication s) refl)
-  except_fits false p s h = closed_fits _ (tell_quiet (ProviderAbortIndication s) refl) (tell_plain (ProviderAbortIndication s) refl)
+  except_fits true p s h = aborted_fits p _ h (tell_quiet (Some (ProviderAbortIndication s)) refl) (tell_plain (Some (ProviderAbortIndication s)) refl)
+  except_fits false p s h = closed_fits _ (tell_quiet (Some (ProviderAbortIndication s)) refl) (tell_plain (Some (ProviderAbortIndication s)) refl)
 
   none_fits : (x : Bool) → Fit r.edition sd (hears a) (no_instruction r x)
   unfolding no_instruction
-  none_fits x = by_test (Fit r.edition sd (hears a)) (is_idle r.control) _ _ (λ e. closed_fits Untold refl refl)
+  none_fits x = by_test (Fit r.edition sd (hears a)) (is_idle r.control) _ _ (λ e. closed_fits None refl refl)
       (λ e. except_fits x _ _ refl)
 
-  handed_fits : (p : Primitive) (t : Told) → (quiet t || is_send a) ≡ true → passes t ≡ false → Fit r.edition sd (hears a) (handed r p t)
+  handed_fits : (p : Primitive) (t : Option Told) → (quiet t || is_send a) ≡ true → passes t ≡ false → Fit r.edition sd (hears a) (handed r p t)
   unfolding handed enter
   handed_fits p t q z = record { coded = record { request = k.request; policy = k.policy; least = k.least; most = k.most; highest = k.highest }; edition = refl; apdu = (refl, refl); body = refl; sends = λ e f. never f; invokes = refl; roomy = tt; told = q; dialogue = after_awaits r.control p w; plain = z }
 
@@ -267,31 +268,31 @@ same_coded : (r : Record) (on : Bool) → Coded r → Coded (with_user r on) × 
 same_coded r on k = (record { request = k.request; policy = k.policy; least = k.least; most = k.most; highest = k.highest }, record { request = k.request; policy = k.policy; least = k.least; most = k.most; highest = k.highest })
 
 abort_quiet : (a : UserData) → quiet (abort_told a) ≡ true
-abort_quiet a = by_test (λ (t : Told). quiet t ≡ true) (is_user_abort a) _ _ (λ e. refl) (λ e. refl)
+abort_quiet a = by_test (λ (t : Option Told). quiet t ≡ true) (is_user_abort a) _ _ (λ e. refl) (λ e. refl)
 
 abort_plain : (a : UserData) → passes (abort_told a) ≡ false
-abort_plain a = by_test (λ (t : Told). passes t ≡ false) (is_user_abort a) _ _ (λ e. refl) (λ e. refl)
+abort_plain a = by_test (λ (t : Option Told). passes t ≡ false) (is_user_abort a) _ _ (λ e. refl) (λ e. refl)
 
 module _ (sd : Side) (r : Record) (k : Coded r) (w : awaits_response r.control ≡ false) where
-  answered_fits : (p : ServicePrimitive) (a : UserData) (f : Fault)
-      → (f ≡ NoFault → Fit r.edition sd (hears a) (instructed r p a))
+  answered_fits : (p : ServicePrimitive) (a : UserData) (f : Option Fault)
+      → (f ≡ None → Fit r.edition sd (hears a) (instructed r p a))
       → Fit r.edition sd (hears a) (answered r p a f)
   unfolding answered
-  answered_fits p a NoFault i = i refl
-  answered_fits p a (NoInstruction live) i = none_fits sd r k w a live
-  answered_fits p a Quality i = aborted_fits sd r k w a _ Untold refl refl refl
-  answered_fits p a TurnedAway i = closed_fits sd r k w a _ (tell_quiet sd r k w a _ refl) (tell_plain sd r k w a _ refl)
-  answered_fits p a (Security live) i = except_fits sd r k w a live _ _ refl
-  answered_fits p a Missing i = except_fits sd r k w a true _ _ refl
-  answered_fits p a (Invalid live) i = except_fits sd r k w a live _ _ refl
-  answered_fits p a (NotPermitted live) i = except_fits sd r k w a live _ _ refl
+  answered_fits p a None i = i refl
+  answered_fits p a (Some (NoInstruction live)) i = none_fits sd r k w a live
+  answered_fits p a (Some Quality) i = aborted_fits sd r k w a _ None refl refl refl
+  answered_fits p a (Some TurnedAway) i = closed_fits sd r k w a _ (tell_quiet sd r k w a _ refl) (tell_plain sd r k w a _ refl)
+  answered_fits p a (Some (Security live)) i = except_fits sd r k w a live _ _ refl
+  answered_fits p a (Some Missing) i = except_fits sd r k w a true _ _ refl
+  answered_fits p a (Some (Invalid live)) i = except_fits sd r k w a live _ _ refl
+  answered_fits p a (Some (NotPermitted live)) i = except_fits sd r k w a live _ _ refl
 
   confirmed_fits : (a : UserData) (x v : ℕ) → Fit r.edition sd (hears a) (forward_confirmed r x v)
   unfolding forward_confirmed
-  confirmed_fits a x v = closed_fits sd (with_timer r false) (same_coded r false k).1 w a (ForwardConfirmation x v) refl refl
+  confirmed_fits a x v = closed_fits sd (with_timer r false) (same_coded r false k).1 w a (Some (ForwardConfirmation x v)) refl refl
 
   -- without a fault, what a D-DATA indication tells is with a send
-  instructed_fits : (p : ServicePrimitive) (a : UserData) → JobLow sd (Service p a) → first_fault sd r p a ≡ NoFault
+  instructed_fits : (p : ServicePrimitive) (a : UserData) → JobLow sd (Service p a) → first_fault sd r p a ≡ None
       → Fit r.edition sd (hears a) (instructed r p a)
   unfolding instructed first_fault
   instructed_fits (DStartIndication x s q v) a b e =
@@ -301,7 +302,7 @@ module _ (sd : Side) (r : Record) (k : Coded r) (w : awaits_response r.control �
   instructed_fits (DStartConfirmation x o s v) a b e =
       by_test (Fit r.edition sd (hears a)) (is_response a) _ _ (λ y. confirmed_fits a (reason_of a) v)
       (λ n. handed_fits sd (with_timer r false) (same_coded r false k).1 w a (DStartCnf (reply_of x)) _ refl refl)
-  instructed_fits DDataIndication a b e = handed_fits sd r k w a DData MessageIndication (send_there sd r DData true a e) refl
+  instructed_fits DDataIndication a b e = handed_fits sd r k w a DData (Some MessageIndication) (send_there sd r DData true a e) refl
   instructed_fits DEndIndication a b e = handed_fits sd r k w a DEnd _ refl refl
   instructed_fits (DEndConfirmation x) a b e = handed_fits sd r k w a (DEndCnf (reply_of x)) _ refl refl
   instructed_fits (DAbortIndication o) a b e = closed_fits sd r k w a _
@@ -350,7 +351,7 @@ module _ (sd : Side) (r : Record) (k : Coded r) (w : awaits_response r.control �
   message_there true j e = refl
   message_there false j e = never e
 
-  sent_fits : (q : Record) (c : Call) (i : Invoked) (a : UserData) (m h : Bool) → Coded q → q.edition ≡ r.edition
+  sent_fits : (q : Record) (c : Call) (i : Option Invoked) (a : UserData) (m h : Bool) → Coded q → q.edition ≡ r.edition
       → awaits_response q.control ≡ false → GoesOut r.edition true sd i a
       → (spares r.edition ≡ true → is_send a ≡ true → h ≡ true) → is_ddata i ≡ m → Roomy i
       → Fit r.edition sd (asks (with_body a) m h) (sent q c i a)
@@ -393,7 +394,7 @@ module _ (sd : Side) (r : Record) (k : Coded r) (w : awaits_response r.control �
   acts_fits (Service p a) h t n j = reached_fits p a j
   acts_fits TimerExpires h t n j = except_fits sd r k w Absent true _ _ refl
   acts_fits UnrecoverableSystemError h t n j = by_test (Fit r.edition sd (hears Absent)) (is_idle r.control) _ _
-      (λ e. closed_fits sd r k w Absent Untold refl refl) (λ e. except_fits sd r k w Absent true _ _ refl)
+      (λ e. closed_fits sd r k w Absent None refl refl) (λ e. except_fits sd r k w Absent true _ _ refl)
 
   -- whatever is taken
   pub step_fits : (e : Event) → JobLow sd e → is_none (step sd r e).refusal ≡ true
@@ -416,7 +417,7 @@ module _ (sd : Side) (r : Record) (k : Coded r) (w : awaits_response r.control �
       (λ (o : Outcome). is_none o.refusal ≡ true → Fit r.edition sd (brings r.edition e) o)
       (sym (numbered_is sd r n e v)) (go (event_fits sd r.edition e && is_stale n e v))
     where
-      go : (t : Bool) → is_none (cond t (refused Stale r) (step sd r e)).refusal ≡ true
-          → Fit r.edition sd (brings r.edition e) (cond t (refused Stale r) (step sd r e))
+      go : (t : Bool) → is_none (cond t (refused (Some Stale) r) (step sd r e)).refusal ≡ true
+          → Fit r.edition sd (brings r.edition e) (cond t (refused (Some Stale) r) (step sd r e))
       go true x = never x
       go false x = step_fits e j x

@@ -1,6 +1,6 @@
 -- The step on bytes: what a call answers and leaves, from the record's bytes, what the host gives, and the two lent output buffers.
 -- Read the record, read the APDU, take the machine's step, write the APDU and the message data, keep the record.
-use Rattle.std.specs.Prelude.{ℕ, ◌+◌, ◌*◌, Bool, true, false, not, cond, ◌&&◌, ◌||◌, List, [], ltb, leb, eqb, length}
+use Rattle.std.specs.Prelude.{ℕ, ◌+◌, ◌*◌, Bool, true, false, not, cond, ◌&&◌, ◌||◌, List, [], ltb, leb, eqb, length, Err, None, Ok, Result, Option, Some}
 use Rattle.words.specs.Limits.{room, shape}
 use Rattle.apdu.specs.Sizes.{buffer_least, bit}
 use Rattle.apdu.specs.Headings.{triple}
@@ -11,16 +11,10 @@ use Rattle.editions.specs.declared.Edition.{Edition}
 use Rattle.pdus.specs.declared.PduType.TheVariants as pdu
 use Rattle.pdus.specs.declared.PduType.{PduType}
 use Rattle.pdus.specs.declared.Span.{Span}
-use Rattle.apdu.specs.declared.Part.{Part}
-use Rattle.apdu.specs.declared.Part.TheVariants as part
 use Rattle.apdu.specs.declared.Data.{Data}
 use Rattle.apdu.specs.declared.Forward.{Forward as Forwarded}
 use Rattle.apdu.specs.declared.Apdu.{Apdu}
 use Rattle.apdu.specs.declared.Apdu.TheVariants as is
-use Rattle.apdu.specs.declared.Decoded.{Decoded}
-use Rattle.apdu.specs.declared.Decoded.TheVariants as decoded
-use Rattle.apdu.specs.declared.Written.{Written}
-use Rattle.apdu.specs.declared.Written.TheVariants as written
 use Rattle.machine.specs.Codes.{aircraft, facility, provider}
 use Rattle.machine.specs.Outcome.{refusal_number, is_none}
 use Rattle.control.specs.declared.Side.{Side}
@@ -34,15 +28,20 @@ use Rattle.machine.specs.declared.event.Event.{Event}
 use Rattle.machine.specs.declared.event.Event.TheVariants.{Service}
 use Rattle.machine.specs.declared.event.Event.TheVariants.{Forward as ForwardRequested}
 use Rattle.machine.specs.declared.outcome.Told.{Told}
-use Rattle.machine.specs.declared.outcome.Told.TheVariants.{Untold, StartIndication, StartConfirmation, MessageIndication, EndIndication, EndConfirmation, UserAbortIndication, ProviderAbortIndication, ForwardIndication, ForwardConfirmation}
+use Rattle.machine.specs.declared.outcome.Told.TheVariants.{StartIndication, StartConfirmation, MessageIndication, EndIndication, EndConfirmation, UserAbortIndication, ProviderAbortIndication, ForwardIndication, ForwardConfirmation}
 use Rattle.control.specs.Control.{awaits_response}
 use Rattle.control.specs.declared.Control.{Control}
 use Rattle.machine.specs.declared.outcome.Outcome.{Outcome}
 use Rattle.numbered.specs.Numbers.{held_after, numbered_step}
 use Rattle.stored.specs.Stored.{flag, load_at, store_at, Kept}
 use Rattle.packed.specs.Packed.{packed, invoked_number, told_number, version_number}
-use Rattle.stored.specs.declared.Loaded.{Loaded}
-use Rattle.stored.specs.declared.Loaded.TheVariants.{Is, NoRecord}
+use Rattle.fields.specs.declared.Refusal.{Refusal}
+use Rattle.words.specs.declared.Unwritten.{Unwritten}
+use Rattle.words.specs.declared.Unwritten.TheVariants.{Room}
+use Rattle.words.specs.declared.Unwritten.TheVariants.{Shape}
+use Rattle.stored.specs.declared.Stored.{Stored}
+use Rattle.step.specs.declared.answers.CallRefusal.{CallRefusal}
+use Rattle.step.specs.declared.answers.CallRefusal.TheVariants as is_refused
 
 -- what a call leaves: the number that it answers, the record's bytes and the two buffers
 pub record Called : Type 0 where
@@ -54,11 +53,20 @@ pub record Called : Type 0 where
 abbrev pub called : ℕ → List ℕ → List ℕ → List ℕ → Called
 called n r a b = record { number = n; kept = r; first = a; second = b }
 
+-- the number of what a call is refused for, and of what it answers
+abbrev pub call_refusal : CallRefusal → ℕ
+call_refusal is_refused.Room = room
+call_refusal (is_refused.Step why) = refusal_number (Some why)
+
+abbrev pub answer_number : Result ℕ CallRefusal → ℕ
+answer_number (Ok n) = n
+answer_number (Err why) = call_refusal why
+
 -- ---- what a call or an APDU carries: message data, or a forward message; what is not there is empty
 
 -- no message data
 abbrev pub no_data : Data
-no_data = record { identifier = part.Absent; message = part.Absent; check = record { at = 0; count = 0 } }
+no_data = record { identifier = None; message = None; check = record { at = 0; count = 0 } }
 
 -- no forward message: one that can't be written
 abbrev pub no_forward : Forwarded
@@ -89,14 +97,14 @@ pdus_of Air = pdu.AircraftPdus
 pdus_of Ground = pdu.GroundPdus
 
 -- the bits that were written
-abbrev pub bits_of_written : Written → ℕ
-bits_of_written (written.Bits n) = n
-bits_of_written written.Room = 0
-bits_of_written written.Shape = 0
+abbrev pub bits_of_written : Result ℕ Unwritten → ℕ
+bits_of_written (Ok n) = n
+bits_of_written (Err Room) = 0
+bits_of_written (Err Shape) = 0
 
 -- what a buffer takes: a count of bits and the buffer afterwards
 abbrev pub nothing_to : List ℕ → Done
-nothing_to s = done (written.Bits 0) s
+nothing_to s = done (Ok 0) s
 
 -- an APDU with its message data, whose parts stand in the bits li, lm and lc
 abbrev pub pdu_to : Edition → PduType → List ℕ → List ℕ → List ℕ → Apdu → List ℕ → Done
@@ -114,17 +122,17 @@ first_takes ed sd li lm lc d Forward s = pdu_to ed (pdus_of sd) li lm lc (is.For
 first_takes ed sd li lm lc d (ForwardResponse x) s = pdu_to ed (pdus_of sd) li lm lc (is.ForwardResponse x) s
 
 -- a forward indication hands the forward message on (Doc 9705, 2.3.5.5.2.3 a)
-abbrev pub passes : Told → Bool
-passes Untold = false
-passes (StartIndication m k) = false
-passes (StartConfirmation m x) = false
-passes MessageIndication = false
-passes (EndIndication m) = false
-passes (EndConfirmation m x) = false
-passes (UserAbortIndication x) = false
-passes (ProviderAbortIndication x) = false
-passes ForwardIndication = true
-passes (ForwardConfirmation x v) = false
+abbrev pub passes : Option Told → Bool
+passes None = false
+passes (Some (StartIndication m k)) = false
+passes (Some (StartConfirmation m x)) = false
+passes (Some MessageIndication) = false
+passes (Some (EndIndication m)) = false
+passes (Some (EndConfirmation m x)) = false
+passes (Some (UserAbortIndication x)) = false
+passes (Some (ProviderAbortIndication x)) = false
+passes (Some ForwardIndication) = true
+passes (Some (ForwardConfirmation x v)) = false
 
 -- a forward message, whose bits stand in lm
 abbrev pub forward_to : Edition → List ℕ → Forwarded → List ℕ → Done
@@ -152,9 +160,9 @@ concluded r a b ed sd n o li lm lc d =
 -- ---- refusals before the step
 
 -- ROOM, then bytes that are no record
-unfoldable pub with_record : List ℕ → List ℕ → List ℕ → Loaded → (Side → Record → ℕ → Called) → Called
-with_record r a b (Is sd x n) k = k sd x n
-with_record r a b NoRecord k = called shape r a b
+unfoldable pub with_record : List ℕ → List ℕ → List ℕ → Option Stored → (Side → Record → ℕ → Called) → Called
+with_record r a b (Some z) k = k z.side z.machine z.number
+with_record r a b None k = called shape r a b
 
 unfoldable pub entering : List ℕ → List ℕ → List ℕ → (Side → Record → ℕ → Called) → Called
 entering r a b k = cond (ltb (length a) buffer_least) (called room r a b) (cond (ltb (length b) buffer_least) (called room r a b) (with_record r a b (load_at r) k))
@@ -191,53 +199,53 @@ reads_again Ground (DAbortIndication o) = eqb o provider
 reads_again Ground DPAbortIndication = false
 
 -- of a second reading only an abort by a provider counts
-unfoldable pub abort_of : Decoded → Apdu → Decoded
+unfoldable pub abort_of : Result Apdu Refusal → Apdu → Result Apdu Refusal
 abort_of first (is.AbortUser r) = first
-abort_of first (is.AbortProvider r) = decoded.Is (is.AbortProvider r)
+abort_of first (is.AbortProvider r) = Ok (is.AbortProvider r)
 abort_of first (is.Start m d) = first
 abort_of first (is.Send d) = first
 abort_of first (is.Forward f) = first
 abort_of first (is.ForwardResponse x) = first
 
-unfoldable pub or_abort : Decoded → Decoded → Decoded
-or_abort (decoded.Is a) second = decoded.Is a
-or_abort (decoded.Refused x) (decoded.Is a) = abort_of (decoded.Refused x) a
-or_abort (decoded.Refused x) (decoded.Refused y) = decoded.Refused x
+unfoldable pub or_abort : Result Apdu Refusal → Result Apdu Refusal → Result Apdu Refusal
+or_abort (Ok a) second = Ok a
+or_abort (Err x) (Ok a) = abort_of (Err x) a
+or_abort (Err x) (Err y) = Err x
 
-unfoldable pub read_pdu : Edition → Side → Control → ServicePrimitive → List ℕ → Decoded
+unfoldable pub read_pdu : Edition → Side → Control → ServicePrimitive → List ℕ → Result Apdu Refusal
 read_pdu ed sd c p l = cond (reads_again sd p) (or_abort (apdu_at ed (reads_as sd c p) l) (apdu_at ed pdu.GroundPdus l)) (apdu_at ed (reads_as sd c p) l)
 
 -- refusals 10 to 17 mean "no valid PDU"
-unfoldable pub meaning : Decoded → UserData
-meaning (decoded.Refused r) = NotValid
-meaning (decoded.Is (is.AbortUser r)) = AbortUser r
-meaning (decoded.Is (is.AbortProvider r)) = AbortProvider r
-meaning (decoded.Is (is.Start m d)) = Start (eqb m 1)
-meaning (decoded.Is (is.Send d)) = Send
-meaning (decoded.Is (is.Forward f)) = Forward
-meaning (decoded.Is (is.ForwardResponse x)) = ForwardResponse x
+unfoldable pub meaning : Result Apdu Refusal → UserData
+meaning (Err r) = NotValid
+meaning (Ok (is.AbortUser r)) = AbortUser r
+meaning (Ok (is.AbortProvider r)) = AbortProvider r
+meaning (Ok (is.Start m d)) = Start (eqb m 1)
+meaning (Ok (is.Send d)) = Send
+meaning (Ok (is.Forward f)) = Forward
+meaning (Ok (is.ForwardResponse x)) = ForwardResponse x
 
 -- where its message data stand
-unfoldable pub data_of : Decoded → Data
-data_of (decoded.Refused r) = no_data
-data_of (decoded.Is (is.AbortUser r)) = no_data
-data_of (decoded.Is (is.AbortProvider r)) = no_data
-data_of (decoded.Is (is.Start m d)) = d
-data_of (decoded.Is (is.Send d)) = d
-data_of (decoded.Is (is.Forward f)) = no_data
-data_of (decoded.Is (is.ForwardResponse x)) = no_data
+unfoldable pub data_of : Result Apdu Refusal → Data
+data_of (Err r) = no_data
+data_of (Ok (is.AbortUser r)) = no_data
+data_of (Ok (is.AbortProvider r)) = no_data
+data_of (Ok (is.Start m d)) = d
+data_of (Ok (is.Send d)) = d
+data_of (Ok (is.Forward f)) = no_data
+data_of (Ok (is.ForwardResponse x)) = no_data
 
 -- its forward message
-unfoldable pub forward_of : Decoded → Forwarded
-forward_of (decoded.Refused r) = no_forward
-forward_of (decoded.Is (is.AbortUser r)) = no_forward
-forward_of (decoded.Is (is.AbortProvider r)) = no_forward
-forward_of (decoded.Is (is.Start m d)) = no_forward
-forward_of (decoded.Is (is.Send d)) = no_forward
-forward_of (decoded.Is (is.Forward f)) = f
-forward_of (decoded.Is (is.ForwardResponse x)) = no_forward
+unfoldable pub forward_of : Result Apdu Refusal → Forwarded
+forward_of (Err r) = no_forward
+forward_of (Ok (is.AbortUser r)) = no_forward
+forward_of (Ok (is.AbortProvider r)) = no_forward
+forward_of (Ok (is.Start m d)) = no_forward
+forward_of (Ok (is.Send d)) = no_forward
+forward_of (Ok (is.Forward f)) = f
+forward_of (Ok (is.ForwardResponse x)) = no_forward
 
-abbrev pub carried_by : Decoded → Carried
+abbrev pub carried_by : Result Apdu Refusal → Carried
 carried_by a = carries (data_of a) (forward_of a)
 
 -- ---- an engine: side, record, the number that the record holds, event, the number that the event brings

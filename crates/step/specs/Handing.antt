@@ -1,18 +1,14 @@
 -- What the code hands on between the parts of a call. No promise rests on it: were it wrong, a proof would fail.
-use Rattle.std.specs.Prelude.{ℕ, ◌+◌, ◌-◌, Bool, true, false, cond, List, [], ◌++◌, eqb, take, drop}
+use Rattle.std.specs.Prelude.{ℕ, ◌+◌, ◌-◌, Bool, true, false, cond, List, [], ◌++◌, eqb, ltb, length, take, drop, ok_or, Err, None, Ok, Option, Result, Some}
 use Rattle.bits.specs.Bits.{bits_n}
 use Rattle.apdu.specs.Writing.{Done, write_out}
 use Rattle.pdus.specs.declared.PduType.{PduType}
 use Rattle.pdus.specs.declared.PduType.TheVariants as pdus
 use Rattle.apdu.specs.declared.Data.{Data}
-use Rattle.apdu.specs.declared.Part.{Part}
-use Rattle.apdu.specs.declared.Part.TheVariants as part
 use Rattle.editions.specs.declared.Edition.{Edition}
 use Rattle.editions.specs.declared.Edition.TheVariants.{Plain, Protected}
 use Rattle.apdu.specs.declared.Apdu.{Apdu}
 use Rattle.apdu.specs.declared.Apdu.TheVariants as is
-use Rattle.apdu.specs.declared.Decoded.{Decoded}
-use Rattle.apdu.specs.declared.Decoded.TheVariants as decoded
 use Rattle.machine.specs.Outcome.{refusal_number, is_none}
 use Rattle.machine.specs.UserData.{is_invalid}
 use Rattle.control.specs.declared.Side.{Side}
@@ -25,6 +21,16 @@ use Rattle.machine.specs.declared.event.Event.TheVariants.{TimerExpires, Unrecov
 use Rattle.machine.specs.declared.outcome.Outcome.{Outcome}
 use Rattle.step.specs.Call.{Called, called, carries_data, no_data, nothing_to, first_takes, passes, finished, reads_as, read_pdu}
 use Rattle.step.specs.declared.arrived.Arrival.{Arrival}
+use Rattle.step.specs.declared.answers.CallRefusal.{CallRefusal}
+use Rattle.step.specs.declared.answers.CallRefusal.TheVariants as refused
+use Rattle.step.specs.declared.call.HostEvent.{HostEvent}
+use Rattle.step.specs.declared.call.HostEvent.TheVariants as host
+use Rattle.stored.specs.declared.Stored.{Stored}
+use Rattle.stored.specs.Stored.{load_at}
+use Rattle.machine.specs.declared.outcome.StepRefusal.TheVariants.{Shape}
+use Rattle.apdu.specs.Sizes.{buffer_least}
+use Rattle.fields.specs.declared.Refusal.{Refusal}
+use Rattle.pdus.specs.declared.Span.{Span}
 
 -- ---- what came with a primitive: what it is to the machine, and the bits of it that a user may be handed
 
@@ -45,23 +51,23 @@ abbrev pub root_of : UserData → ℕ → Data → Arrival
 root_of m p d = came m (p + 1) (d.check.at + d.check.count - (p + 1))
 
 -- a message in place, or none
-abbrev pub message_of : UserData → Part → Arrival
-message_of m part.Absent = came m 0 0
-message_of m (part.Given x) = came m x.at x.count
+abbrev pub message_of : UserData → Option Span → Arrival
+message_of m None = came m 0 0
+message_of m (Some x) = came m x.at x.count
 
 -- message data, whose extension bit, where they have one, stands at p
 abbrev pub body_of : Edition → UserData → ℕ → Data → Arrival
 body_of Protected m p d = root_of m p d
 body_of Plain m p d = message_of m d.message
 
-unfoldable pub arrival_of : Edition → PduType → Decoded → Arrival
-arrival_of ed t (decoded.Refused r) = came NotValid 0 0
-arrival_of ed t (decoded.Is (is.AbortUser r)) = came (AbortUser r) 0 0
-arrival_of ed t (decoded.Is (is.AbortProvider r)) = came (AbortProvider r) 0 0
-arrival_of ed t (decoded.Is (is.Start m d)) = body_of ed (Start (eqb m 1)) (start_at t m) d
-arrival_of ed t (decoded.Is (is.Send d)) = body_of ed Send (send_at t) d
-arrival_of ed t (decoded.Is (is.Forward f)) = came Forward 4 (f.message.at + f.message.count - 4)
-arrival_of ed t (decoded.Is (is.ForwardResponse x)) = came (ForwardResponse x) 0 0
+unfoldable pub arrival_of : Edition → PduType → Result Apdu Refusal → Arrival
+arrival_of ed t (Err r) = came NotValid 0 0
+arrival_of ed t (Ok (is.AbortUser r)) = came (AbortUser r) 0 0
+arrival_of ed t (Ok (is.AbortProvider r)) = came (AbortProvider r) 0 0
+arrival_of ed t (Ok (is.Start m d)) = body_of ed (Start (eqb m 1)) (start_at t m) d
+arrival_of ed t (Ok (is.Send d)) = body_of ed Send (send_at t) d
+arrival_of ed t (Ok (is.Forward f)) = came Forward 4 (f.message.at + f.message.count - 4)
+arrival_of ed t (Ok (is.ForwardResponse x)) = came (ForwardResponse x) 0 0
 
 -- of a second reading only an abort by a provider counts
 unfoldable pub abort_in : Arrival → Apdu → Arrival
@@ -72,11 +78,11 @@ abort_in x (is.Send d) = x
 abort_in x (is.Forward f) = x
 abort_in x (is.ForwardResponse y) = x
 
-unfoldable pub again : Arrival → Decoded → Arrival
-again x (decoded.Is a) = abort_in x a
-again x (decoded.Refused r) = x
+unfoldable pub again : Arrival → Result Apdu Refusal → Arrival
+again x (Ok a) = abort_in x a
+again x (Err r) = x
 
-unfoldable pub or_again : Arrival → Decoded → Arrival
+unfoldable pub or_again : Arrival → Result Apdu Refusal → Arrival
 or_again x y = cond (is_invalid x.pdu) (again x y) x
 
 -- given: 0 no user data, 1 user data
@@ -141,6 +147,12 @@ concluded_of r a b ed sd n o x l =
     cond (is_none o.refusal) (finished r a b sd n o (reply_takes ed sd o.apdu a) (delivered_of ed l x o b)) (called (refusal_number o.refusal) r a b)
 
 -- an expiry, or a system error
-abbrev pub host_event : Bool → Event
-host_event true = TimerExpires
-host_event false = UnrecoverableSystemError
+abbrev pub host_event : HostEvent → Event
+host_event host.TimerExpires = TimerExpires
+host_event host.SystemError = UnrecoverableSystemError
+
+-- ---- in front of each call: ROOM, then bytes that are no record
+unfoldable pub opened : List ℕ → List ℕ → List ℕ → Result Stored CallRefusal
+opened r a b =
+    cond (ltb (length a) buffer_least) (Err refused.Room)
+    (cond (ltb (length b) buffer_least) (Err refused.Room) (ok_or (load_at r) (refused.Step Shape)))

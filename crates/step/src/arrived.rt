@@ -3,13 +3,13 @@ ghost use Rattle.std.specs.Prelude.{◌≡◌, ◌+◌, ◌-◌, ◌^◌, ◌≤
 ghost use Rattle.apdu.specs.Pdus.{lent};
 ghost use Rattle.codec.specs.Codec.{apdu_at};
 ghost use Rattle.step.specs.Call.{confirmation_reads, peer_reads, reads_again, reads_as};
-ghost use Rattle.step.specs.Handing.{abort_in, arrival_of, arrived, body_of, came, message_of, or_again, root_of, send_at, start_at};
+ghost use Rattle.step.specs.Handing.{arrival_of, arrived, body_of, came, message_of, or_again, root_of, send_at, start_at};
 
-use apdu::{Apdu, Data, Decoded, Forward, Part};
+use apdu::{Apdu, Data, Forward};
 use control::{Control, Side, awaits_response};
 use editions::Edition;
 use machine::event::{ServicePrimitive, UserData};
-use pdus::PduType;
+use pdus::{PduType, Span};
 
 // What came with a primitive: what it is to the machine, and the bits of it that a user may be handed. Of a forward message these are all of its
 // bits, of message data those behind the extension bit.
@@ -42,49 +42,30 @@ fn of_confirmation(c: Control) -> PduType
     }
 }
 
-fn ground_reads(c: Control, p: ServicePrimitive) -> PduType
-    ensures { result ≡ reads_as Side.Ground c p }
-{
-    match p {
-        ServicePrimitive::DStartIndication(x, _, _, _) => of_peer(x),
-        ServicePrimitive::DStartConfirmation(_, _, _, _) => of_confirmation(c),
-        ServicePrimitive::DDataIndication => PduType::AircraftPdus,
-        ServicePrimitive::DEndIndication => PduType::AircraftPdus,
-        ServicePrimitive::DEndConfirmation(_) => PduType::AircraftPdus,
-        ServicePrimitive::DAbortIndication(_) => PduType::AircraftPdus,
-        ServicePrimitive::DPAbortIndication => PduType::AircraftPdus,
-    }
-}
-
+#[tactic(auto, unfolding(crate::specs::Call::reads_as))]
 fn reads_as(side: Side, c: Control, p: ServicePrimitive) -> PduType
     ensures { result ≡ reads_as side c p }
 {
     match side {
         Side::Air => PduType::GroundPdus,
-        Side::Ground => ground_reads(c, p),
+        Side::Ground => match p {
+            ServicePrimitive::DStartIndication(x, _, _, _) => of_peer(x),
+            ServicePrimitive::DStartConfirmation(_, _, _, _) => of_confirmation(c),
+            _ => PduType::AircraftPdus,
+        },
     }
 }
 
-fn ground_reads_again(p: ServicePrimitive) -> bool
-    ensures { result ≡ reads_again Side.Ground p }
-{
-    match p {
-        ServicePrimitive::DStartIndication(_, _, _, _) => false,
-        ServicePrimitive::DStartConfirmation(_, _, _, _) => false,
-        ServicePrimitive::DDataIndication => false,
-        ServicePrimitive::DEndIndication => false,
-        ServicePrimitive::DEndConfirmation(_) => false,
-        ServicePrimitive::DAbortIndication(o) => o == ServicePrimitive::PROVIDER,
-        ServicePrimitive::DPAbortIndication => false,
-    }
-}
-
+#[tactic(auto, unfolding(crate::specs::Call::reads_again))]
 fn reads_again(side: Side, p: ServicePrimitive) -> bool
     ensures { result ≡ reads_again side p }
 {
     match side {
         Side::Air => false,
-        Side::Ground => ground_reads_again(p),
+        Side::Ground => match p {
+            ServicePrimitive::DAbortIndication(o) => o == ServicePrimitive::PROVIDER,
+            _ => false,
+        },
     }
 }
 
@@ -134,12 +115,12 @@ fn root_of(m: UserData, at: usize, d: Data) -> Arrival
 }
 
 // A message in place, or none.
-fn message_of(m: UserData, message: Part) -> Arrival
+fn message_of(m: UserData, message: Option<Span>) -> Arrival
     ensures { result ≡ message_of m message }
 {
     match message {
-        Part::Absent => bare(m),
-        Part::Given(x) => Arrival {
+        None => bare(m),
+        Some(x) => Arrival {
             pdu: m,
             from: x.at,
             count: x.count,
@@ -175,47 +156,33 @@ fn forward_of(f: Forward) -> Arrival
 }
 
 // User data read as a type. Refusals 10 to 17 mean "no valid PDU".
+#[tactic(auto, unfolding(crate::specs::Handing::arrival_of))]
 fn read_as(edition: Edition, bytes: &[u8], pdus: PduType) -> Arrival
     ensures { result ≡ arrival_of edition pdus (apdu_at edition pdus (lent bytes.now)) }
 {
-    let Decoded::Is(a) = codec::read_apdu(edition, bytes, pdus) else {
-        return bare(UserData::NotValid);
-    };
-    match a {
-        Apdu::AbortUser(x) => bare(UserData::AbortUser(x)),
-        Apdu::AbortProvider(x) => bare(UserData::AbortProvider(x)),
-        Apdu::Start(m, d) => body_of(edition, UserData::Start(m == 1), start_at(pdus, m), d),
-        Apdu::Send(d) => body_of(edition, UserData::Send, send_at(pdus), d),
-        Apdu::Forward(f) => forward_of(f),
-        Apdu::ForwardResponse(x) => bare(UserData::ForwardResponse(x)),
+    match codec::read_apdu(edition, bytes, pdus) {
+        Err(_) => bare(UserData::NotValid),
+        Ok(Apdu::AbortUser(x)) => bare(UserData::AbortUser(x)),
+        Ok(Apdu::AbortProvider(x)) => bare(UserData::AbortProvider(x)),
+        Ok(Apdu::Start(m, d)) => body_of(edition, UserData::Start(m == 1), start_at(pdus, m), d),
+        Ok(Apdu::Send(d)) => body_of(edition, UserData::Send, send_at(pdus), d),
+        Ok(Apdu::Forward(f)) => forward_of(f),
+        Ok(Apdu::ForwardResponse(x)) => bare(UserData::ForwardResponse(x)),
     }
 }
 
-// Of a second reading only an abort by a provider counts.
-fn abort_in(x: Arrival, second: Apdu) -> Arrival
-    ensures { result ≡ abort_in x second }
-{
-    match second {
-        Apdu::AbortUser(_) => x,
-        Apdu::AbortProvider(r) => bare(UserData::AbortProvider(r)),
-        Apdu::Start(_, _) => x,
-        Apdu::Send(_) => x,
-        Apdu::Forward(_) => x,
-        Apdu::ForwardResponse(_) => x,
-    }
-}
-
+// Of a second reading, where the first is none, only an abort by a provider counts.
+#[tactic(auto, unfolding(crate::specs::Handing::again, crate::specs::Handing::or_again, crate::specs::Handing::abort_in))]
 fn read_again(edition: Edition, x: Arrival, bytes: &[u8]) -> Arrival
     ensures { result ≡ or_again x (apdu_at edition PduType.GroundPdus (lent bytes.now)) }
 {
-    let m = x.pdu;
-    if m.kind() != UserData::NOT_VALID {
-        return x;
+    match x.pdu {
+        UserData::NotValid => match codec::read_apdu(edition, bytes, PduType::GroundPdus) {
+            Ok(Apdu::AbortProvider(r)) => bare(UserData::AbortProvider(r)),
+            _ => x,
+        },
+        _ => x,
     }
-    let Decoded::Is(a) = codec::read_apdu(edition, bytes, PduType::GroundPdus) else {
-        return x;
-    };
-    abort_in(x, a)
 }
 
 // What came with a primitive, of which the types that may be there are tried: given 1 user data, 0 none.

@@ -2,9 +2,10 @@
 // Read the record, read the APDU, take the machine's step, write the APDU and the message data, keep the record.
 #![tactic(auto)]
 
+mod answers;
 mod arrived;
 mod call;
 mod carried;
 
-pub use call::{forward_call, host_call, service_call, user_call};
+pub use call::{HostEvent, forward_call, host_call, service_call, user_call};
 pub use carried::no_data;

@@ -1,27 +1,24 @@
--- A record that was stored is loaded again, and the ways out of loading and storing, as the code has them.
+-- A record that was stored is loaded again.
 -- Assumes nothing.
 use mathlib.Core.Path.{◌≡◌, refl, ap, sym, subst, ◌∙◌}
-use mathlib.Core.Bool.{Bool, true, false, cond, ◌&&◌}
-use mathlib.Core.List.{List, [], ◌∷◌, ◌++◌, append_assoc, append-nil}
+use mathlib.Core.Bool.{Bool, true, false, ◌&&◌}
+use mathlib.Core.List.{List, [], ◌++◌, append_assoc, append-nil}
 use Prim.Native.Nat.{ℕ, zero, suc, ◌+◌, ◌*◌, ◌^◌, ◌≤◌, ◌<◌}
 use native.Mathlib.Omega.{arith}
 use native.Mathlib.Nat.{zero-add}
-use borrow.Author.Tests.{eq-eqb, ne_eqb, le-leb, lt-leb, lt-ltb, le-ltb}
+use borrow.Author.Tests.{eq-eqb, le-leb, lt-ltb}
 use lib.Dec.{eqb, leb}
 use lib.Seq.{drop_at, take_at}
-use lib.ListN.{length, get_or, take, drop, length-append}
+use lib.ListN.{length, take, drop, length-append}
 use Rattle.bits.specs.Bits.{bits_n, bits_of, bits_to, bytes_of, run}
 use Rattle.bits.specs.Put.{Left, left, put_bits, put_number}
-use Rattle.bits.specs.declared.Put.{Put}
 use Rattle.bits.proofs.Numbers.{Bits, length_bits_n, bits_bits_n}
-use Rattle.bits.proofs.Bytes.{Bytes, Holds, length_bits_is, length_to, run_to, bits_append, bits_bits, bits_bytes}
+use Rattle.bits.proofs.Bytes.{Bytes, Holds, length_bits_is, length_to, run_to, bits_append, bits_bits, bits_bytes, bytes_bits}
 use Rattle.bits.proofs.Reading.{number_read}
 use Rattle.bits.proofs.Putting.{put_if_yes, put_fits, put_append, length_put}
-use Rattle.bits.proofs.Whole.{put_whole, bytes_of_bits, bits_of_append, length_bytes}
+use Rattle.bits.proofs.Whole.{put_whole, put_front_bytes, bytes_of_bits, bits_of_append, length_bytes}
 use Rattle.bits.specs.Read.{read_bits}
-use Rattle.bits.specs.declared.Read.{Read}
-use Rattle.bits.specs.declared.Read.TheVariants.{Number, Short}
-use Rattle.control.specs.Control.{number, entered}
+use Rattle.control.specs.Control.{number}
 use Rattle.editions.specs.declared.Edition.{Edition}
 use Rattle.editions.specs.declared.Edition.TheVariants.{Plain, Protected}
 use Rattle.control.specs.declared.Side.{Side}
@@ -29,48 +26,8 @@ use Rattle.control.specs.declared.Side.TheVariants.{Air, Ground}
 use Rattle.control.specs.declared.State.{State}
 use Rattle.control.specs.declared.State.TheVariants.{Idle, StartReq, StartInd, Dialogue, End, Forward}
 use Rattle.machine.specs.declared.record.Record.{Record}
-use Rattle.stored.specs.Stored.{side_byte, state_byte, dsc_byte, timer_byte, active_byte, request_byte, policy_byte, forwards_byte, version_byte, version_fits, job_byte, job_bytes, number_bytes, record_bytes, job_bit, job_bits, number_bit, number_bits, record_bits, side_code, end_code, edition_in, side_of, state_of, flag, head_bytes, stored_bytes, head_fits, code_at, head_of, with_numbers, load_at, kept, store_at}
-use Rattle.stored.specs.declared.Loaded.{Loaded}
-use Rattle.stored.specs.declared.Loaded.TheVariants.{Is, NoRecord}
-
-pub other_state : (x : ℕ) → (x ≡ 0 → ⊥) → (x ≡ 1 → ⊥) → (x ≡ 2 → ⊥) → (x ≡ 3 → ⊥) → (x ≡ 4 → ⊥) → Forward ≡ state_of x
-other_state zero a b c d e = absurd (a refl)
-other_state (suc zero) a b c d e = absurd (b refl)
-other_state (suc (suc zero)) a b c d e = absurd (c refl)
-other_state (suc (suc (suc zero))) a b c d e = absurd (d refl)
-other_state (suc (suc (suc (suc zero)))) a b c d e = absurd (e refl)
-other_state (suc (suc (suc (suc (suc n))))) a b c d e = refl
-
--- ---- the ways out of `load`, as the code has them
-
-pub load_long : (b : List ℕ) → (length b ≡ record_bytes → ⊥) → NoRecord ≡ load_at b
-unfolding load_at
-load_long b h = rw (ne_eqb (length b) record_bytes h)
-
-module _ (b : List ℕ) (sized : length b ≡ record_bytes) (t : Bool) (p : t ≡ head_of b) where
-  pub load_odd : t ≡ false → NoRecord ≡ load_at b
-  unfolding load_at
-  load_odd q = rw (eq-eqb (length b) record_bytes sized, ← p, q)
-
-  module _ (q : t ≡ true) (r : Read) (pr : r ≡ read_bits (bits_to b record_bits) job_bit job_bits) where
-    loads : load_at b ≡ with_numbers b r (read_bits (bits_to b record_bits) number_bit number_bits)
-    unfolding load_at
-    loads = rw (eq-eqb (length b) record_bytes sized, ← p, q, ← pr)
-
-    pub load_none : r ≡ Short → NoRecord ≡ load_at b
-    unfolding with_numbers
-    load_none e = rw (loads, e)
-
-    module _ (h next : ℕ) (e : r ≡ Number h next) (s : Read) (ps : s ≡ read_bits (bits_to b record_bits) number_bit number_bits) where
-      pub load_no_number : s ≡ Short → NoRecord ≡ load_at b
-      unfolding with_numbers
-      load_no_number f = rw (loads, ← ps, e, f)
-
-      pub load_is : (n last : ℕ) → s ≡ Number n last → (sd : Side) (x : State) (u : Edition)
-          → sd ≡ side_of (code_at b side_byte) → x ≡ state_of (code_at b state_byte) → u ≡ edition_in (code_at b side_byte)
-          → Is sd (record { control = record { state = x; dsc = eqb (code_at b dsc_byte) 1 }; timer = eqb (code_at b timer_byte) 1; active = eqb (code_at b active_byte) 1; highest = h; request = code_at b request_byte; policy = code_at b policy_byte; forwards = eqb (code_at b forwards_byte) 1; version = code_at b version_byte; edition = u }) n ≡ load_at b
-      unfolding with_numbers
-      load_is n last f sd x u y z w = rw (loads, ← ps, e, f, y, z, w)
+use Rattle.stored.specs.Stored.{job_byte, job_bytes, number_bytes, record_bytes, job_bit, job_bits, number_bit, number_bits, record_bits, side_code, end_code, edition_in, side_of, state_of, flag, head_bytes, stored_bytes, head_fits, head_of, with_numbers, load_at, kept, store_at, is_stored}
+use Rattle.std.specs.Prelude.{Option, Some}
 
 -- ---- the codes
 
@@ -122,44 +79,24 @@ pub length_head : (sd : Side) (r : Record) → length (head_bytes sd r) ≡ job_
 unfolding head_bytes
 length_head sd r = refl
 
--- ---- the ways out of `store`, as the code has them
+-- the head put at the front is its bytes
+pub head_put : (b : List ℕ) (sd : Side) (r : Record) → Bytes b → length b ≡ record_bytes → r.request < 2 → r.policy < 2
+    → r.version < 256 → head_bytes sd r ++ drop job_byte b ≡ put_bits b 0 (bits_of (head_bytes sd r))
+head_put b sd r bs n q p v =
+    let l : length (head_bytes sd r) ≡ job_byte = length_head sd r in
+    let w : length (bits_of (head_bytes sd r)) ≡ job_bit = length_bits_is (head_bytes sd r) ∙ omega arith in
+    let y : bytes_of job_byte (bits_of (head_bytes sd r)) ≡ head_bytes sd r = subst (λ (k : ℕ). bytes_of k
+    (bits_of (head_bytes sd r)) ≡ head_bytes sd r) l (bytes_bits (head_bytes sd r) (bytes_head sd r q p v)) in
+    sym (put_front_bytes b (bits_of (head_bytes sd r)) job_byte bs (bits_bits (head_bytes sd r)) (omega arith) w ∙ ap
+    (λ (x : List ℕ). x ++ drop job_byte b) y)
 
-pub store_long : (b : List ℕ) (sd : Side) (r : Record) (n : ℕ) → (length b ≡ record_bytes → ⊥) → kept false b ≡ store_at b sd r n
-unfolding store_at
-store_long b sd r n h = rw (ne_eqb (length b) record_bytes h)
-
-pub store_request : (b : List ℕ) (sd : Side) (r : Record) (n : ℕ) → length b ≡ record_bytes → 2 ≤ r.request
-    → kept false b ≡ store_at b sd r n
-unfolding store_at
-store_request b sd r n h g = rw (eq-eqb (length b) record_bytes h, le-ltb r.request 2 g)
-
-pub store_policy : (b : List ℕ) (sd : Side) (r : Record) (n : ℕ) → length b ≡ record_bytes → r.request < 2
-    → 2 ≤ r.policy → kept false b ≡ store_at b sd r n
-unfolding store_at
-store_policy b sd r n h g k = rw (eq-eqb (length b) record_bytes h, lt-ltb r.request 2 g, le-ltb r.policy 2 k)
-
-pub store_no_version : (b : List ℕ) (sd : Side) (r : Record) (n : ℕ) → length b ≡ record_bytes → r.request < 2
-    → r.policy < 2 → r.version < 1 → kept false b ≡ store_at b sd r n
-unfolding store_at
-store_no_version b sd r n h g k v = rw
-    (eq-eqb (length b) record_bytes h, lt-ltb r.request 2 g, lt-ltb r.policy 2 k, lt-leb 1 r.version v)
-
-pub store_version : (b : List ℕ) (sd : Side) (r : Record) (n : ℕ) → length b ≡ record_bytes → r.request < 2
-    → r.policy < 2 → 1 ≤ r.version → 256 ≤ r.version → kept false b ≡ store_at b sd r n
-unfolding store_at
-store_version b sd r n h g k l v = rw (
-  eq-eqb (length b) record_bytes h,
-  lt-ltb r.request 2 g,
-  lt-ltb r.policy 2 k,
-  le-leb 1 r.version l,
-  le-ltb r.version 256 v,
-)
+-- ---- the way out of `store` that stores
 
 -- the bits of the highest job and of the dialogue number
 abbrev pub word_bits : ℕ → List ℕ
 word_bits v = bits_n 64 v
 
-word_put : (y z : List ℕ) (q : Put) (at v : ℕ) → length y ≡ record_bytes → at + 64 ≤ record_bits → v < 2 ^ 64
+word_put : (y z : List ℕ) (q : Option ℕ) (at v : ℕ) → length y ≡ record_bytes → at + 64 ≤ record_bits → v < 2 ^ 64
     → left q z ≡ put_number y record_bits at 64 v → z ≡ put_bits y at (word_bits v)
 unfolding put_number
 word_put y z q at v n m h f =
@@ -168,7 +105,7 @@ word_put y z q at v n m h f =
     ap (λ (o : Left). o.bytes) (f ∙ put_if_yes _ y record_bits at (bits_n 64 v) (lt-ltb v (2 ^ 64) h) ∙ put_fits y
     record_bits at (bits_n 64 v) (omega arith))
 
-module _ (b y z u : List ℕ) (q s : Put) (sd : Side) (r : Record) (n : ℕ) (sized : length b ≡ record_bytes) (bs : Bytes b) (hc : Coded r) (hn : n < 2 ^ 64) where
+module _ (b y z u : List ℕ) (q s : Option ℕ) (sd : Side) (r : Record) (n : ℕ) (sized : length b ≡ record_bytes) (bs : Bytes b) (hc : Coded r) (hn : n < 2 ^ 64) where
   -- three writes are one
   joined : length (bits_of (head_bytes sd r)) ≡ job_bit → y ≡ put_bits b 0 (bits_of (head_bytes sd r))
       → z ≡ put_bits y job_bit (word_bits r.highest) → u ≡ put_bits z number_bit (word_bits n)
@@ -293,23 +230,23 @@ module _ (sd : Side) (r : Record) (n : ℕ) (hc : Coded r) (hn : n < 2 ^ 64) whe
       (take_at (word_bits v) y 64 w))
 
   word_read : (x y : List ℕ) (at v : ℕ) → bits_of (stored_bytes sd r n) ≡ x ++ (word_bits v ++ y) → length x ≡ at
-      → at + 64 ≤ record_bits → v < 2 ^ 64 → read_bits (bits_to (stored_bytes sd r n) record_bits) at 64 ≡ Number v (at + 64)
+      → at + 64 ≤ record_bits → v < 2 ^ 64 → read_bits (bits_to (stored_bytes sd r n) record_bits) at 64 ≡ Some (v, at + 64)
   word_read x y at v e h m low =
       let k : length (bits_to (stored_bytes sd r n) record_bits) ≡ record_bits = length_to (stored_bytes sd r n) record_bits ∙
       omega (arith, length_stored) in
       number_read _ at 64 v (omega arith) low (omega arith) (word_stands x y at v e h m)
 
-  job_read : read_bits (bits_to (stored_bytes sd r n) record_bits) job_bit job_bits ≡ Number r.highest number_bit
+  job_read : read_bits (bits_to (stored_bytes sd r n) record_bits) job_bit job_bits ≡ Some (r.highest, number_bit)
   job_read = word_read (bits_of (head_bytes sd r)) (word_bits n) job_bit r.highest stored_bits length_head_bits (omega arith) hc.highest
 
-  number_back : read_bits (bits_to (stored_bytes sd r n) record_bits) number_bit number_bits ≡ Number n record_bits
+  number_back : read_bits (bits_to (stored_bytes sd r n) record_bits) number_bit number_bits ≡ Some (n, record_bits)
   number_back =
       let e : bits_of (head_bytes sd r) ++ (word_bits r.highest ++ word_bits n) ≡
       (bits_of (head_bytes sd r) ++ word_bits r.highest) ++ (word_bits n ++ []) = rw (append-nil, append_assoc) in
       let l : length (bits_of (head_bytes sd r) ++ word_bits r.highest) ≡ number_bit = rw (length-append, length_head_bits, length_bits_n) in
       word_read (bits_of (head_bytes sd r) ++ word_bits r.highest) [] number_bit n (stored_bits ∙ e) l (omega arith) hn
 
-  record_back : with_numbers (stored_bytes sd r n) (Number r.highest number_bit) (Number n record_bits) ≡ Is sd r n
+  record_back : with_numbers (stored_bytes sd r n) (Some (r.highest, number_bit)) (Some (n, record_bits)) ≡ is_stored sd r n
   unfolding stored_bytes head_bytes with_numbers
   record_back = rw (
     side_back sd r.edition,
@@ -322,6 +259,6 @@ module _ (sd : Side) (r : Record) (n : ℕ) (hc : Coded r) (hn : n < 2 ^ 64) whe
     flag_back r.forwards,
   )
 
-  pub loaded_stored : load_at (stored_bytes sd r n) ≡ Is sd r n
+  pub loaded_stored : load_at (stored_bytes sd r n) ≡ is_stored sd r n
   unfolding load_at
   loaded_stored = rw (length_stored, head_stored, job_read, number_back) record_back

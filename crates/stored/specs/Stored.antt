@@ -1,10 +1,8 @@
 -- A record as the host keeps it: nine bytes of one code each, then the highest job taken and the dialogue number (document 02, E9), eight
 -- bytes each, most significant byte first. A range of zeros is no record.
-use Rattle.std.specs.Prelude.{ℕ, zero, suc, ◌+◌, ◌*◌, Bool, true, false, cond, ◌&&◌, List, [], ◌∷◌, ◌++◌, leb, ltb, eqb, length, get_or}
+use Rattle.std.specs.Prelude.{ℕ, zero, suc, ◌+◌, ◌*◌, Bool, true, false, cond, ◌&&◌, List, [], ◌∷◌, ◌++◌, leb, ltb, eqb, length, get_or, None, Option, Some}
 use Rattle.bits.specs.Bits.{bits_n, bits_to, bytes_of}
 use Rattle.bits.specs.Read.{read_bits}
-use Rattle.bits.specs.declared.Read.{Read}
-use Rattle.bits.specs.declared.Read.TheVariants.{Number, Short}
 use Rattle.machine.specs.Codes.{security_values, versions}
 use Rattle.control.specs.Control.{number, entered}
 use Rattle.editions.specs.declared.Edition.{Edition}
@@ -14,8 +12,7 @@ use Rattle.control.specs.declared.Side.TheVariants.{Air, Ground}
 use Rattle.control.specs.declared.State.{State}
 use Rattle.control.specs.declared.State.TheVariants.{Idle, StartReq, StartInd, Dialogue, End, Forward}
 use Rattle.machine.specs.declared.record.Record.{Record}
-use Rattle.stored.specs.declared.Loaded.{Loaded}
-use Rattle.stored.specs.declared.Loaded.TheVariants.{Is, NoRecord}
+use Rattle.stored.specs.declared.Stored.{Stored}
 
 -- ---- the layout: the byte of each field
 
@@ -145,10 +142,14 @@ code_at b i = get_or b i 0
 abbrev pub head_of : List ℕ → Bool
 head_of b = head_fits (code_at b side_byte) (code_at b state_byte) (code_at b dsc_byte) (code_at b timer_byte) (code_at b active_byte) (code_at b request_byte) (code_at b policy_byte) (code_at b forwards_byte) (code_at b version_byte)
 
+-- what the bytes of a record say: its side, the record, and the dialogue number that it holds
+abbrev pub is_stored : Side → Record → ℕ → Option Stored
+is_stored sd r n = Some (record { side = sd; machine = r; number = n })
+
 -- the record whose highest job and dialogue number were read
-unfoldable pub with_numbers : List ℕ → Read → Read → Loaded
-with_numbers b (Number h next) (Number n last) =
-    Is (side_of (code_at b side_byte)) (record {
+unfoldable pub with_numbers : List ℕ → Option (ℕ × ℕ) → Option (ℕ × ℕ) → Option Stored
+with_numbers b (Some (h, next)) (Some (n, last)) =
+    is_stored (side_of (code_at b side_byte)) (record {
       control = entered (state_of (code_at b state_byte)) (eqb (code_at b dsc_byte) 1);
       timer = eqb (code_at b timer_byte) 1;
       active = eqb (code_at b active_byte) 1;
@@ -159,12 +160,12 @@ with_numbers b (Number h next) (Number n last) =
       version = code_at b version_byte;
       edition = edition_in (code_at b side_byte);
     }) n
-with_numbers b (Number h next) Short = NoRecord
-with_numbers b Short x = NoRecord
+with_numbers b (Some (h, next)) None = None
+with_numbers b None x = None
 
 -- what a range of bytes says
-unfoldable pub load_at : List ℕ → Loaded
-load_at b = cond (eqb (length b) record_bytes && head_of b) (with_numbers b (read_bits (bits_to b record_bits) job_bit job_bits) (read_bits (bits_to b record_bits) number_bit number_bits)) NoRecord
+unfoldable pub load_at : List ℕ → Option Stored
+load_at b = cond (eqb (length b) record_bytes && head_of b) (with_numbers b (read_bits (bits_to b record_bits) job_bit job_bits) (read_bits (bits_to b record_bits) number_bit number_bits)) None
 
 -- what storing leaves: whether the record was stored, and the bytes
 pub record Kept : Type 0 where

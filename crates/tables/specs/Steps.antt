@@ -1,5 +1,5 @@
 -- What each move does to the pages of two ends (crate replay, steps.rt): the rule that it breaks, or 0, and what it leaves.
-use Rattle.std.specs.Prelude.{ℕ, zero, suc, ◌-◌, Bool, true, false, not, cond, ◌&&◌, List, eqb, leb, ltb, get_or, set}
+use Rattle.std.specs.Prelude.{ℕ, zero, suc, ◌-◌, Bool, true, false, not, cond, ◌&&◌, List, eqb, leb, ltb, get_or, set, None, Option, Some}
 use Rattle.control.specs.declared.Side.{Side}
 use Rattle.control.specs.declared.Reply.{Reply}
 use Rattle.control.specs.declared.Reply.TheVariants.{Accepted, Rejected}
@@ -10,7 +10,7 @@ use Rattle.control.specs.declared.Primitive.TheVariants.{DStart, DStartCnf, DTur
 use Rattle.control.specs.Control.{expects, closed}
 use Rattle.moves.specs.declared.Held.{Held}
 use Rattle.moves.specs.declared.Done.{Done}
-use Rattle.moves.specs.declared.Done.TheVariants.{Refused, Quiet, Shows, Sends, Aborts}
+use Rattle.moves.specs.declared.Done.TheVariants.{Quiet, Shows, Sends, Aborts}
 use Rattle.moves.specs.Machine.{is_opening, called_of, received_of, holding as record_of}
 use Rattle.tables.specs.Tables.{Leaves, flag_of, held_in, holding, among, pushed, noted, is_noted, told, entry_in, put_on_line, trimmed, start_in, removed, mark_broken, marked_line, and_then}
 
@@ -120,12 +120,12 @@ aborted l b r most = on_put (put_on_line (trimmed (holding l r) r.number most) 8
 unfoldable pub sent : List ℕ → Call → Held → ℕ → One
 sent l u r job = as_rule (put_on_line (holding l r) (kind_sent u) r.number job)
 
-unfoldable pub call_done : List ℕ → List ℕ → Call → ℕ → Done → Two
-call_done l b u most Refused = two 20 l b
-call_done l b u most (Quiet r) = two 20 l b
-call_done l b u most (Shows r) = two 20 l b
-call_done l b u most (Sends r) = beside (sent l u r 0) b
-call_done l b u most (Aborts r) = aborted l b r most
+unfoldable pub call_done : List ℕ → List ℕ → Call → ℕ → Option Done → Two
+call_done l b u most None = two 20 l b
+call_done l b u most (Some (Quiet r)) = two 20 l b
+call_done l b u most (Some (Shows r)) = two 20 l b
+call_done l b u most (Some (Sends r)) = beside (sent l u r 0) b
+call_done l b u most (Some (Aborts r)) = aborted l b r most
 
 unfoldable pub made_call : List ℕ → List ℕ → Side → Call → ℕ → Two
 made_call l b sd u most = cond (eqb (ready_rule l) 0) (call_done l b u most (called_of sd (held_in l) u 0 0)) (two (ready_rule l) l b)
@@ -137,12 +137,12 @@ on_start t dsc r = cond t.answer (sent t.page (StartRequest dsc) r 0) (one 23 t.
 unfoldable pub start_told : List ℕ → Bool → Held → One
 start_told l dsc r = on_start (told l 3) dsc r
 
-unfoldable pub start_done : List ℕ → Bool → Done → One
-start_done l dsc Refused = one 20 l
-start_done l dsc (Quiet r) = one 20 l
-start_done l dsc (Shows r) = one 20 l
-start_done l dsc (Sends r) = start_told l dsc r
-start_done l dsc (Aborts r) = one 20 l
+unfoldable pub start_done : List ℕ → Bool → Option Done → One
+start_done l dsc None = one 20 l
+start_done l dsc (Some (Quiet r)) = one 20 l
+start_done l dsc (Some (Shows r)) = one 20 l
+start_done l dsc (Some (Sends r)) = start_told l dsc r
+start_done l dsc (Some (Aborts r)) = one 20 l
 
 -- may: all starts come from this end
 unfoldable pub started_by : List ℕ → List ℕ → Side → Bool → Bool → ℕ → One
@@ -160,12 +160,12 @@ reported l b sd most = cond (is_down l) (two 3 l b) (cond (is_idle l) (two 0 l b
 unfoldable pub turned_to : List ℕ → ℕ → Held → One
 turned_to l i r = as_rule (told (holding (removed l i) r) 3)
 
-unfoldable pub turn_done : List ℕ → ℕ → Done → One
-turn_done l i Refused = one 20 l
-turn_done l i (Quiet r) = turned_to l i r
-turn_done l i (Shows r) = one 20 l
-turn_done l i (Sends r) = one 20 l
-turn_done l i (Aborts r) = one 20 l
+unfoldable pub turn_done : List ℕ → ℕ → Option Done → One
+turn_done l i None = one 20 l
+turn_done l i (Some (Quiet r)) = turned_to l i r
+turn_done l i (Some (Shows r)) = one 20 l
+turn_done l i (Some (Sends r)) = one 20 l
+turn_done l i (Some (Aborts r)) = one 20 l
 
 -- the carrier removes the start and turns it away
 unfoldable pub turned_back : List ℕ → Side → One
@@ -186,12 +186,12 @@ on_decided w job r = cond w.answer (on_opened (pushed w.page 9 19472 1024 job) j
 unfoldable pub taken_job : List ℕ → Held → ℕ → One
 taken_job l r job = on_decided (pushed l 8 3088 16384 job) job r
 
-unfoldable pub take_done_of : List ℕ → ℕ → Done → One
-take_done_of l job Refused = one 20 l
-take_done_of l job (Quiet r) = one 20 l
-take_done_of l job (Shows r) = one 20 l
-take_done_of l job (Sends r) = taken_job l r job
-take_done_of l job (Aborts r) = one 20 l
+unfoldable pub take_done_of : List ℕ → ℕ → Option Done → One
+take_done_of l job None = one 20 l
+take_done_of l job (Some (Quiet r)) = one 20 l
+take_done_of l job (Some (Shows r)) = one 20 l
+take_done_of l job (Some (Sends r)) = taken_job l r job
+take_done_of l job (Some (Aborts r)) = one 20 l
 
 unfoldable pub taken : List ℕ → Side → ℕ → One
 taken l sd job =
@@ -231,12 +231,12 @@ quieted l r fate = cond (eqb fate 0) (one 0 (holding l r)) (as_rule (told (holdi
 unfoldable pub showed : List ℕ → Held → One
 showed l r = one 0 (set (holding l r) 5 1)
 
-unfoldable pub met_done : List ℕ → List ℕ → ℕ → ℕ → Done → Two
-met_done l b most fate Refused = two 0 l b
-met_done l b most fate (Quiet r) = beside (quieted l r fate) b
-met_done l b most fate (Shows r) = beside (showed l r) b
-met_done l b most fate (Sends r) = two 20 l b
-met_done l b most fate (Aborts r) = aborted l b r most
+unfoldable pub met_done : List ℕ → List ℕ → ℕ → ℕ → Option Done → Two
+met_done l b most fate None = two 0 l b
+met_done l b most fate (Some (Quiet r)) = beside (quieted l r fate) b
+met_done l b most fate (Some (Shows r)) = beside (showed l r) b
+met_done l b most fate (Some (Sends r)) = two 20 l b
+met_done l b most fate (Some (Aborts r)) = aborted l b r most
 
 -- an IDLE end takes no notice of anything but a start
 abbrev pub is_deaf : List ℕ → Primitive → Bool

@@ -10,25 +10,25 @@ use lib.ListN.{get_or}
 use Rattle.pair.specs.Names.{Side, other, Call, UserAbort, TimerExpiry, SystemError, DAbort, closed, takes}
 use Rattle.pair.specs.Carrier.{Body, user_call, timer_expires_of, error_reported}
 use Rattle.pair.specs.Numbered.{Numbered, mark, starter, n_cut}
-use Rattle.pair.proofs.ControlMachine.{Held, Ent, ent, Ask, ask}
+use Rattle.pair.proofs.ControlMachine.{Held, ent, Ask, ask}
 use Rattle.duties.specs.Memory.{Decision, tells, told_broken}
-use Rattle.duties.specs.Host.{Power, up, Act, happens}
+use Rattle.duties.specs.Host.{up, Act, happens}
 use Rattle.moves.specs.declared.Held.{Held as Holds}
-use Rattle.moves.specs.declared.Done.{Done}
-use Rattle.moves.specs.declared.Done.TheVariants.{Refused, Aborts}
+use Rattle.moves.specs.declared.Done.TheVariants.{Aborts}
 use Rattle.moves.specs.Machine.{called_of, holding as record_of}
 use Rattle.moves_laws.specs.Pages.{Beside}
-use Rattle.moves_laws.proofs.Steps.{M, Page, page, Lands}
+use Rattle.moves_laws.proofs.Steps.{M, Page, page}
 use Rattle.moves_laws.proofs.Events.{abort_lands, expiry_lands, error_lands}
 use Rattle.tables.specs.Tables.{held_in}
 use Rattle.tables.specs.Steps.{Two, two, is_up_of, is_down, ready_rule, aborted, call_done, made_call, reported}
 use Rattle.tables.specs.Steps as steps
-use Rattle.tables_laws.proofs.Reading.{power_of, line_of, notes_of, page_of, broken_of, Sound, Counted}
-use Rattle.tables_laws.proofs.Follow.{past, first_rule_is, page_path, move_of, Lands1, Made, one_act, no_act, as_pages, Follows}
+use Rattle.tables_laws.proofs.Reading.{line_of, notes_of, page_of, broken_of, Sound, Counted}
+use Rattle.tables_laws.proofs.Follow.{past, first_rule_is, page_path, move_of, Lands1, one_act, no_act, as_pages, Follows}
 use Rattle.tables_laws.proofs.HostMoves.{up_power}
 use Rattle.tables_laws.proofs.Lines.{ready_is}
 use Rattle.tables_laws.proofs.JobMoves.{ready_page}
 use Rattle.tables_laws.proofs.Cuts.{aborts_one}
+use Rattle.std.specs.Prelude.{None, Some}
 
 abbrev rule2 : Two → ℕ
 rule2 o = o.rule
@@ -77,15 +77,15 @@ module _ (text : Side → ℕ → Body) (fresh : Side → Numbered Held) (from :
 
   abort_done : (u : Call) (a : Act (Numbered Ask)) (most : ℕ) (c : Bool) → ready_rule l ≡ 0
       → (c ≡ true → Lands1 text fresh from sd before₀ far₀ (broken_of b) a (left₀ most) far₀ broke_too)
-      → (call_done l b u most (cond c (Aborts after₀) Refused)).rule ≡ 0
-      → Follows text fresh from sd d e l z b (call_done l b u most (cond c (Aborts after₀) Refused)).here z
-      (call_done l b u most (cond c (Aborts after₀) Refused)).broken
+      → (call_done l b u most (cond c (Some (Aborts after₀)) None)).rule ≡ 0
+      → Follows text fresh from sd d e l z b (call_done l b u most (cond c (Some (Aborts after₀)) None)).here z
+      (call_done l b u most (cond c (Some (Aborts after₀)) None)).broken
   unfolding call_done
   abort_done u a most true ready w h = aborts_follow a most ready (w refl) h
   abort_done u a most false ready w h = absurd (omega (arith, h))
 
   aborting_follows : (u : Call) (a : Act (Numbered Ask)) (most : ℕ) (c : Bool)
-      → called_of sd (held_in l) u 0 0 ≡ cond c (Aborts after₀) Refused
+      → called_of sd (held_in l) u 0 0 ≡ cond c (Some (Aborts after₀)) None
       → (c ≡ true → Lands1 text fresh from sd before₀ far₀ (broken_of b) a (left₀ most) far₀ broke_too)
       → (made_call l b sd u most).rule ≡ 0 → Follows text fresh from sd d e l z b (made_call l b sd u most).here z
       (made_call l b sd u most).broken
@@ -102,7 +102,7 @@ module _ (text : Side → ℕ → Body) (fresh : Side → Numbered Held) (from :
       aborting_follows UserAbort (happens (user_call (mark 0 (ask UserAbort [] 0)) most)) most (takes sd (held_in l).control UserAbort) refl
       (λ (c : takes sd (held_in l).control UserAbort ≡ true) (g i : Beside).
       abort_lands text fresh (starter from sd) sd (held_in l) (line_of text sd l) (notes_of text d l) (get_or l 6 0) far₀
-      (broken_of b) g i UserAbort closed most refl (ap (λ (v : Bool). cond v (Aborts after₀) Refused) c)) h
+      (broken_of b) g i UserAbort closed most refl (ap (λ (v : Bool). cond v (Some (Aborts after₀)) None) c)) h
 
   pub expiry_follows : (most : ℕ) → (made_call l b sd TimerExpiry most).rule ≡ 0
       → Follows text fresh from sd d e l z b (made_call l b sd TimerExpiry most).here z (made_call l b sd TimerExpiry most).broken
@@ -110,7 +110,7 @@ module _ (text : Side → ℕ → Body) (fresh : Side → Numbered Held) (from :
       aborting_follows TimerExpiry (happens (timer_expires_of most)) most (takes sd (held_in l).control TimerExpiry) refl
       (λ (c : takes sd (held_in l).control TimerExpiry ≡ true) (g i : Beside).
       expiry_lands text fresh (starter from sd) sd (held_in l) (line_of text sd l) (notes_of text d l) (get_or l 6 0) far₀
-      (broken_of b) g i closed most (ap (λ (v : Bool). cond v (Aborts after₀) Refused) c)) h
+      (broken_of b) g i closed most (ap (λ (v : Bool). cond v (Some (Aborts after₀)) None) c)) h
 
   error_up : (most : ℕ) → (made_call l b sd SystemError most).rule ≡ 0
       → Follows text fresh from sd d e l z b (made_call l b sd SystemError most).here z (made_call l b sd SystemError most).broken
@@ -118,7 +118,7 @@ module _ (text : Side → ℕ → Body) (fresh : Side → Numbered Held) (from :
       aborting_follows SystemError (happens (error_reported most)) most (takes sd (held_in l).control SystemError) refl
       (λ (c : takes sd (held_in l).control SystemError ≡ true) (g i : Beside).
       error_lands text fresh (starter from sd) sd (held_in l) (line_of text sd l) (notes_of text d l) (get_or l 6 0) far₀
-      (broken_of b) g i closed most (ap (λ (v : Bool). cond v (Aborts after₀) Refused) c)) h
+      (broken_of b) g i closed most (ap (λ (v : Bool). cond v (Some (Aborts after₀)) None) c)) h
 
   pub stays_follows : Follows text fresh from sd d e l z b l z b
   stays_follows = record { moves = []; then = d; near = s; far = t; counted = k; makes = no_act text fresh from sd (page_of text sd d l) far₀ (broken_of b) }

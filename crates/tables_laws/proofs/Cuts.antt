@@ -1,11 +1,11 @@
 -- A D-ABORT is sent: the entries of its dialogue that are lost, the number of the dialogue among those that broke, and what the page says after it.
 -- Assumes nothing.
-use mathlib.Core.Path.{◌≡◌, refl, ap, sym, subst, fun_ext, ◌∙◌}
-use mathlib.Core.Bool.{Bool, true, false, not, cond, ◌&&◌, ◌||◌}
+use mathlib.Core.Path.{◌≡◌, refl, ap, sym, subst, ◌∙◌}
+use mathlib.Core.Bool.{Bool, true, false, not, cond, ◌||◌}
 use mathlib.Core.List.{List, [], ◌∷◌, ◌++◌}
 use Prim.Native.Nat.{ℕ, zero, suc, ◌+◌, ◌-◌, ◌*◌, ◌≤◌, ◌<◌}
 use native.Mathlib.Omega.{arith}
-use borrow.Author.Tests.{eqb-true, eqb-false, eq-eqb, ne_eqb, le-ltb, ltb-true, ltb-false}
+use borrow.Author.Tests.{eqb-true, le-ltb, ltb-true, ltb-false}
 use lib.Dec.{eqb, ltb}
 use lib.ListN.{length, get_or, set, length-set}
 use Rattle.pair.specs.Names.{Side}
@@ -13,16 +13,16 @@ use Rattle.pair.specs.Carrier.{Body}
 use Rattle.pair.specs.Numbered.{Numbered, mark, trim, n_cut}
 use Rattle.pair.proofs.ControlMachine.{Ent, ent}
 use Rattle.pair.specs.Names.{DAbort}
-use Rattle.duties.specs.Memory.{Decision, Notes, tells, told_broken}
+use Rattle.duties.specs.Memory.{Decision, tells, told_broken}
 use Rattle.moves.specs.declared.Held.{Held as Holds}
-use Rattle.moves_laws.proofs.Steps.{M, Page, page}
-use Rattle.tables.specs.Tables.{Leaves, left, held_in, holding, member, among, pushed, entry_in, set_entry, counted_if, settled, stays_of, is_of, trim_on, trimmed, put_on_line, mark_broken, told}
-use Rattle.tables.specs.Steps.{Two, two, room, on_told, on_mark, on_put, aborted}
+use Rattle.moves_laws.proofs.Steps.{M, page}
+use Rattle.tables.specs.Tables.{Leaves, left, holding, member, among, pushed, entry_in, set_entry, counted_if, settled, is_of, trim_on, trimmed, put_on_line, mark_broken, told}
+use Rattle.tables.specs.Steps.{Two, two, room, on_told, on_mark, aborted}
 use Rattle.tables.proofs.Tables.{get_same, get_other, size, entry_there, held_back}
-use Rattle.tables_laws.proofs.Reading.{power_of, entry_of, entry_at, line_from, line_of, notes_of, page_of, broken_of, Sound, Counted}
-use Rattle.tables_laws.proofs.Places.{app_assoc, Same, same_then, same_below, same_above, among_same, entry_path, entry_is, line_last}
-use Rattle.tables_laws.proofs.Effects.{never, held_same, hold_same, length_hold, entry_before, entry_behind, length_entry, line_within, Pushed, put_pushed, pushed_on}
-use Rattle.tables_laws.proofs.Follow.{past, upon, roomy, page_path, notes_stay, decided_stays, low_line, low_notes, tells_all}
+use Rattle.tables_laws.proofs.Reading.{power_of, entry_at, line_from, line_of, notes_of, page_of, broken_of, Sound, Counted}
+use Rattle.tables_laws.proofs.Places.{app_assoc, Same, same_below, same_above, among_same, entry_path, line_last}
+use Rattle.tables_laws.proofs.Effects.{held_same, hold_same, entry_before, entry_behind, length_entry, line_within, put_pushed, pushed_on}
+use Rattle.tables_laws.proofs.Follow.{upon, roomy, page_path, notes_stay, decided_stays, low_line, low_notes, tells_all}
 use Rattle.tables_laws.proofs.Lines.{held_sound, puts_one}
 
 -- ---- the model's trim, an entry at a time

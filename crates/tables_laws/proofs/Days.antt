@@ -1,18 +1,18 @@
 -- A day of moves that the tables do not refuse is a run of two hosts that keep their duties: the promise holds of its last pages.
 -- Assumes nothing.
 use mathlib.Core.Path.{◌≡◌, refl, ap, sym, subst, fun_ext, ◌∙◌}
-use mathlib.Core.Bool.{Bool, true, false, not}
+use mathlib.Core.Bool.{Bool, false, not}
 use mathlib.Core.List.{List, [], ◌∷◌, ◌++◌}
 use Prim.Native.Nat.{ℕ, zero, suc, ◌≤◌, ◌<◌}
 use native.Mathlib.Omega.{arith}
 use lib.Dec.{eqb}
 use lib.ListN.{length, get_or, set, replicate, length-set, length-replicate}
-use Rattle.pair.specs.Names.{Side, Air, Ground, other, Reply, StartResponse, EndRequest, EndResponse, UserAbort, TimerExpiry, closed}
+use Rattle.pair.specs.Names.{Side, Air, Ground, Reply, StartResponse, EndRequest, EndResponse, UserAbort, TimerExpiry, closed}
 use Rattle.pair.specs.Carrier.{Body}
 use Rattle.pair.specs.Numbered.{Numbered, starter, not_below}
 use Rattle.pair.proofs.ControlMachine.{Held, Ask}
-use Rattle.duties.specs.Memory.{Decision, undecided, Notes, blank}
-use Rattle.duties.specs.Host.{right, up, Move}
+use Rattle.duties.specs.Memory.{Decision, undecided, blank}
+use Rattle.duties.specs.Host.{up, Move}
 use Rattle.duties.proofs.EndConfirmed.{answers_yes}
 use Rattle.duties.proofs.ControlHosts.{letters}
 use Rattle.moves.specs.Machine.{holding as record_of}
@@ -20,11 +20,11 @@ use Rattle.moves_laws.specs.Pages.{Sheet, MakesAll, Promised}
 use Rattle.moves_laws.proofs.Steps.{M, Page, page}
 use Rattle.moves_laws.proofs.Day.{begun, day_holds}
 use Rattle.tables.specs.Tables.{state_of, held_in, among}
-use Rattle.tables.specs.Steps.{One, Two, All, all, facing, beside, shown_to, departed, power_failed, cut_off_of, gave_up, released_by, carrier_failed, refused_job, taken, acknowledged, started_by, made_call, reported, turned_back, heard, heard_end}
+use Rattle.tables.specs.Steps.{One, All, all, facing, shown_to, departed, power_failed, cut_off_of, gave_up, released_by, carrier_failed, refused_job, taken, acknowledged, started_by, made_call, reported, turned_back, heard, heard_end}
 use Rattle.tables.proofs.Tables.{size, get_same, get_other}
-use Rattle.tables_laws.proofs.Reading.{jobs_from, notices_from, power_of, line_from, line_of, notes_of, page_of, broken_of, Sound, Counted}
+use Rattle.tables_laws.proofs.Reading.{jobs_from, notices_from, power_of, line_from, page_of, broken_of, Sound, Counted}
 use Rattle.tables_laws.proofs.Places.{Same, same_then, same_below, same_above}
-use Rattle.tables_laws.proofs.Follow.{page_path, notes_path, Follows, sheet_of}
+use Rattle.tables_laws.proofs.Follow.{page_path, notes_path, Follows}
 use Rattle.tables_laws.proofs.HostMoves.{shown_follows, left_follows, power_follows, cut_follows, gives_up_follows, acknowledged_follows, released_follows}
 use Rattle.tables_laws.proofs.JobMoves.{refused_follows, taken_follows, started_follows, start_answer_follows, end_request_follows, end_answer_follows}
 use Rattle.tables_laws.proofs.AbortMoves.{abort_follows, expiry_follows, error_follows}

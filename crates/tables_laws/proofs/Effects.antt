@@ -1,11 +1,11 @@
 -- What each change of a page does to what the page says: the record, a list with one more, the open jobs told.
 -- Assumes nothing.
 use mathlib.Core.Path.{◌≡◌, refl, ap, sym, subst, ◌∙◌}
-use mathlib.Core.Bool.{Bool, true, false, not, cond, ◌||◌}
+use mathlib.Core.Bool.{Bool, true, false, cond}
 use mathlib.Core.List.{List, [], ◌∷◌, ◌++◌}
-use Prim.Native.Nat.{ℕ, zero, suc, ◌+◌, ◌-◌, ◌*◌, ◌≤◌, ◌<◌}
+use Prim.Native.Nat.{ℕ, zero, suc, ◌+◌, ◌*◌, ◌≤◌, ◌<◌}
 use native.Mathlib.Omega.{arith}
-use borrow.Author.Tests.{lt-leb, le-leb, lt-ltb, le-ltb, ltb-true, leb-false, eqb-true, eqb-false, eq-eqb}
+use borrow.Author.Tests.{ltb-true, leb-false}
 use lib.Dec.{T, eqb, leb, ltb}
 use lib.ListN.{length, get_or, set, length-set}
 use Rattle.control.specs.Control.{number, entered}
@@ -16,10 +16,10 @@ use Rattle.pair.specs.Carrier.{Body}
 use Rattle.pair.specs.Numbered.{Numbered}
 use Rattle.pair.proofs.ControlMachine.{Ent}
 use Rattle.duties.specs.Memory.{Notice, Fate, note, each}
-use Rattle.tables.specs.Tables.{Leaves, left, and_then, state_of, flag_of, held_in, holding, member, among, pushed, noted, tell_on, told, entry_in, set_entry, put_on_line}
-use Rattle.tables.proofs.Tables.{get_same, get_other, size, entry_there, held_back}
+use Rattle.tables.specs.Tables.{Leaves, left, state_of, flag_of, held_in, holding, pushed, noted, tell_on, told, entry_in, set_entry, put_on_line}
+use Rattle.tables.proofs.Tables.{get_same, get_other, size, entry_there}
 use Rattle.tables_laws.proofs.Reading.{jobs_from, fate_in, notice_at, notices_from, entry_of, entry_at, line_from}
-use Rattle.tables_laws.proofs.Places.{cons_path, app_assoc, Same, same_then, same_below, same_above, jobs_same, jobs_more, notices_same, notices_more, notice_path, among_same, entry_is, entry_same, entry_path, entry_fields, line_fields, line_last}
+use Rattle.tables_laws.proofs.Places.{app_assoc, Same, same_then, same_below, same_above, jobs_same, notices_same, notices_more, notice_path, entry_is, entry_same, entry_path, line_fields, line_last}
 
 pub never : {X : Type 0} → false ≡ true → X
 never e = absurd (subst T (sym e) tt)

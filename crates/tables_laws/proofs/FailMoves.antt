@@ -7,31 +7,31 @@ use Prim.Native.Nat.{ℕ, zero, suc, ◌+◌, ◌≤◌, ◌<◌}
 use native.Mathlib.Omega.{arith}
 use borrow.Author.Tests.{eqb-true, eqb-false}
 use lib.Dec.{eqb}
-use lib.ListN.{length, get_or, set, length-set}
+use lib.ListN.{get_or, set, length-set}
 use Rattle.pair.specs.Names.{Side, other, is_idle, closed}
 use Rattle.pair.specs.Carrier.{Body}
 use Rattle.pair.specs.Numbered.{Numbered, starter, on_line}
-use Rattle.pair.proofs.ControlMachine.{Held, Ent}
-use Rattle.duties.specs.Memory.{Decision, Notes, tells, told_broken}
-use Rattle.duties.specs.Host.{right, Power, up, apart, down, carrier_fails, rejoins}
+use Rattle.pair.proofs.ControlMachine.{Held}
+use Rattle.duties.specs.Memory.{Decision, tells, told_broken}
+use Rattle.duties.specs.Host.{right, Power, up, carrier_fails, rejoins}
 use Rattle.duties.proofs.EndConfirmed.{answers_yes}
 use Rattle.duties.proofs.ControlHosts.{letters}
 use Rattle.moves.specs.declared.Held.{Held as Holds}
 use Rattle.moves.specs.Machine.{holding as record_of}
 use Rattle.moves_laws.specs.Pages.{Beside}
-use Rattle.moves_laws.proofs.Steps.{M, Page, page, Lands}
+use Rattle.moves_laws.proofs.Steps.{M, Page, page}
 use Rattle.moves_laws.proofs.Failures.{lost_of, fail_lands}
 use Rattle.tables.specs.Tables.{Leaves, left, and_then, held_in, holding, entry_in, told, mark_broken, mark_on, marked_line}
 use Rattle.tables.specs.Steps.{One, All, one, all, as_rule, closed_in, lost, marked_alive, rejoined, lost_too, on_lost, on_there, on_here, carrier_failed}
 use Rattle.tables.specs.Steps as steps
-use Rattle.tables.proofs.Tables.{get_same, get_other, size, held_back}
+use Rattle.tables.proofs.Tables.{get_same, get_other, held_back}
 use Rattle.tables_laws.proofs.Reading.{power_of, line_from, line_of, notes_of, page_of, broken_of, Sound, Counted}
 use Rattle.tables_laws.proofs.Places.{Same, same_then, same_below, same_above}
-use Rattle.tables_laws.proofs.Effects.{never, held_same, hold_same, length_hold}
-use Rattle.tables_laws.proofs.Follow.{past, upon, first_rule_is, roomy, page_path, notes_stay, decided_stays, low_sound, low_line, low_notes, tells_all, move_of, Lands1, one_act, as_pages, Follows}
+use Rattle.tables_laws.proofs.Effects.{never, held_same, hold_same}
+use Rattle.tables_laws.proofs.Follow.{upon, first_rule_is, roomy, page_path, notes_stay, decided_stays, low_sound, low_line, low_notes, tells_all, move_of, one_act, as_pages, Follows}
 use Rattle.tables_laws.proofs.HostMoves.{idle_is, number_is}
 use Rattle.tables_laws.proofs.Lines.{held_sound}
-use Rattle.tables_laws.proofs.Cuts.{Breaks, breaks_one}
+use Rattle.tables_laws.proofs.Cuts.{breaks_one}
 
 abbrev rule1 : One → ℕ
 rule1 o = o.rule

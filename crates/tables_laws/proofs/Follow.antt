@@ -1,29 +1,28 @@
 -- What it means that the tables follow the model, and what the changes of a page do to the page of the model that it says.
 -- Assumes nothing.
 use mathlib.Core.Path.{◌≡◌, refl, ap, sym, subst, ◌∙◌}
-use mathlib.Core.Bool.{Bool, true, false, not, cond, ◌||◌}
+use mathlib.Core.Bool.{Bool, true, false, cond}
 use mathlib.Core.List.{List, [], ◌∷◌, ◌++◌}
-use Prim.Native.Nat.{ℕ, zero, suc, ◌+◌, ◌-◌, ◌*◌, ◌≤◌, ◌<◌}
+use Prim.Native.Nat.{ℕ, ◌+◌, ◌≤◌, ◌<◌}
 use native.Mathlib.Omega.{arith}
-use borrow.Author.Tests.{eqb-true, eqb-false, leb-false}
-use lib.Dec.{eqb, leb, ltb}
-use lib.ListN.{length, get_or, set, length-set}
+use borrow.Author.Tests.{eqb-true, eqb-false}
+use lib.Dec.{eqb}
+use lib.ListN.{length, get_or}
 use Rattle.pair.specs.Names.{Side, Air, Ground, other}
 use Rattle.pair.specs.Carrier.{Body}
 use Rattle.pair.specs.Numbered.{Numbered, starter}
 use Rattle.pair.proofs.ControlMachine.{Held, Ent, Ask}
-use Rattle.duties.specs.Memory.{Decision, Notice, Notes, is_decided, each, tells}
-use Rattle.duties.specs.Host.{Power, up, apart, down, Act, Move}
+use Rattle.duties.specs.Memory.{Decision, Notice, Notes, each, tells}
+use Rattle.duties.specs.Host.{Power, Act, Move}
 use Rattle.duties.proofs.EndConfirmed.{answers_yes}
 use Rattle.duties.proofs.ControlHosts.{letters}
 use Rattle.moves.specs.declared.Held.{Held as Holds}
 use Rattle.moves_laws.specs.Pages.{Beside, Sheet, MakesAll}
 use Rattle.moves_laws.proofs.Steps.{M, Page, page, Lands}
-use Rattle.tables.specs.Tables.{Leaves, held_in, holding, among, told}
-use Rattle.tables.proofs.Tables.{size, get_same, get_other, held_back}
-use Rattle.tables_laws.proofs.Reading.{jobs_from, fate_in, notices_from, power_of, line_from, line_of, notes_of, page_of, broken_of, Sound, Counted}
-use Rattle.tables_laws.proofs.Places.{Same, same_then, jobs_same, notices_same, among_same}
-use Rattle.tables_laws.proofs.Effects.{held_same, hold_same, length_hold, line_within, tell_all}
+use Rattle.tables.specs.Tables.{among, told}
+use Rattle.tables_laws.proofs.Reading.{jobs_from, fate_in, notices_from, line_from, line_of, notes_of, page_of, broken_of, Sound, Counted}
+use Rattle.tables_laws.proofs.Places.{Same, jobs_same, notices_same, among_same}
+use Rattle.tables_laws.proofs.Effects.{line_within, tell_all}
 
 -- ---- a choice that breaks no rule
 

@@ -3,41 +3,42 @@
 use mathlib.Core.Path.{◌≡◌, refl, ap, sym, subst, fun_ext, ◌∙◌}
 use mathlib.Core.Bool.{Bool, true, false, not, cond, ◌&&◌, ◌||◌}
 use mathlib.Core.List.{List, [], ◌∷◌, ◌++◌}
-use Prim.Native.Nat.{ℕ, zero, suc, ◌+◌, ◌≤◌, ◌<◌}
+use Prim.Native.Nat.{ℕ, zero, suc, ◌≤◌, ◌<◌}
 use native.Mathlib.Omega.{arith}
-use borrow.Author.Tests.{eqb-true, eqb-false, ltb-true, leb-false, lt-ltb, eq-eqb}
+use borrow.Author.Tests.{eqb-true, ltb-true, leb-false, lt-ltb, eq-eqb}
 use lib.Dec.{eqb, leb, ltb}
 use lib.ListN.{length, get_or, set, length-set}
 use Rattle.control.specs.Control.{ender}
 use Rattle.pair.specs.Names.{State, Idle, StartReq, StartInd, Dialogue, End, Forward, is, Side, other, Control, Accepted, Primitive, DStart, DStartCnf, DTurnedAway, DData, DEnd, DEndCnf, DAbort, DPAbort, is_idle, closed, expects, after}
-use Rattle.pair.specs.Carrier.{Body, nothing, puts, Outcome, refused, acts, begins?, hand_over}
+use Rattle.pair.specs.Carrier.{Body, nothing, acts, begins?, hand_over}
 use Rattle.pair.specs.Numbered.{Numbered, mark, starter, n_cut}
 use Rattle.pair.proofs.ControlMachine.{Held, Ent, ent, Ask, sort_of}
 use Rattle.pair.proofs.NumberedLines.{self, differ}
 use Rattle.duties.specs.Memory.{Decision, Notes, Notice, tells, told_broken, told_ended}
-use Rattle.duties.specs.Host.{Power, up, Act, happens, end_confirmed_of, release, give_up, breaks?}
+use Rattle.duties.specs.Host.{up, Act, happens, end_confirmed_of, release, give_up, breaks?}
 use Rattle.moves.specs.declared.Held.{Held as Holds}
 use Rattle.moves.specs.declared.Done.{Done}
-use Rattle.moves.specs.declared.Done.TheVariants.{Refused, Quiet, Shows, Sends, Aborts}
+use Rattle.moves.specs.declared.Done.TheVariants.{Quiet, Shows, Aborts}
 use Rattle.moves.specs.Machine.{is_opening, is_data, met_by, received_of, holding as record_of}
 use Rattle.moves_laws.specs.Pages.{Beside}
 use Rattle.moves_laws.proofs.Machine.{rec_of, arrival_done, receive_is}
-use Rattle.moves_laws.proofs.Steps.{M, Page, page, Lands, sends_lands, gives_up_lands}
+use Rattle.moves_laws.proofs.Steps.{M, Page, page, sends_lands, gives_up_lands}
 use Rattle.moves_laws.proofs.Events.{told_by, discard_lands, stale_lands, quiet_lands, message_lands, answer_lands}
 use Rattle.moves_laws.proofs.Failures.{confirmed_lands}
-use Rattle.tables.specs.Tables.{Leaves, held_in, holding, entry_in, removed, told}
+use Rattle.tables.specs.Tables.{held_in, holding, entry_in, removed, told}
 use Rattle.tables.specs.Steps.{One, Two, All, one, two, all, beside, facing, as_rule, room, ready_rule, primitive_of, aborted, is_kind, is_job, first_rule, quieted, showed, met_done, is_deaf, meeting, fate_of, heard, heard_end}
 use Rattle.tables.specs.Steps as steps
-use Rattle.tables.proofs.Tables.{get_same, get_other, size, held_back}
-use Rattle.tables_laws.proofs.Reading.{fate_in, power_of, entry_of, entry_at, line_from, line_of, notes_of, page_of, broken_of, Sound, Counted}
-use Rattle.tables_laws.proofs.Places.{Same, same_then, same_below, same_above}
+use Rattle.tables.proofs.Tables.{get_same, held_back}
+use Rattle.tables_laws.proofs.Reading.{fate_in, power_of, entry_at, line_of, notes_of, page_of, broken_of, Sound, Counted}
+use Rattle.tables_laws.proofs.Places.{Same, same_below, same_above}
 use Rattle.tables_laws.proofs.Effects.{never, held_same, hold_same, length_hold}
-use Rattle.tables_laws.proofs.Follow.{past, upon, first_rule_is, roomy, page_path, low_sound, low_line, low_notes, tells_all, move_of, Lands1, Made, one_act, more_acts, as_pages, Follows}
+use Rattle.tables_laws.proofs.Follow.{past, upon, first_rule_is, roomy, page_path, low_sound, low_line, low_notes, tells_all, move_of, Lands1, one_act, more_acts, as_pages, Follows}
 use Rattle.tables_laws.proofs.HostMoves.{up_power, idle_is, number_is}
 use Rattle.tables_laws.proofs.Lines.{ready_is, held_sound}
 use Rattle.tables_laws.proofs.JobMoves.{ready_page}
 use Rattle.tables_laws.proofs.Cuts.{aborts_one}
 use Rattle.tables_laws.proofs.Removes.{TakenOff, takes_off, length_line}
+use Rattle.std.specs.Prelude.{None, Option, Some}
 
 abbrev rule1 : One → ℕ
 rule1 o = o.rule
@@ -183,18 +184,18 @@ module _ (text : Side → ℕ → Body) (sd : Side) (d : ℕ → Decision) (l : 
 
 -- ---- what a primitive does to a record, case by case
 
-pub met_cases : (sd : Side) (r : Holds) (p : Primitive) (P : Done → Type 0)
-    → ((c : Control) → P (Quiet (record_of c r.number r.highest)))
-    → ((c : Control) → is_data p ≡ true → P (Shows (record_of c r.number r.highest)))
-    → ((c : Control) → P (Aborts (record_of c r.number r.highest))) → P (met_by sd r p)
+pub met_cases : (sd : Side) (r : Holds) (p : Primitive) (P : Option Done → Type 0)
+    → ((c : Control) → P (Some (Quiet (record_of c r.number r.highest))))
+    → ((c : Control) → is_data p ≡ true → P (Some (Shows (record_of c r.number r.highest))))
+    → ((c : Control) → P (Some (Aborts (record_of c r.number r.highest)))) → P (Some (met_by sd r p))
 unfolding met_by
 met_cases sd r p P q w a = go (expects sd r.control p) (is_data p) (is_idle r.control && not (is_opening p)) refl
   where
     go : (x y i : Bool) → is_data p ≡ y
-        → P (cond x (cond y (Shows (record_of (after r.control p) r.number r.highest))
+        → P (Some (cond x (cond y (Shows (record_of (after r.control p) r.number r.highest))
         (Quiet (record_of (after r.control p) r.number r.highest))) (cond i
         (Quiet (record_of closed r.number r.highest))
-        (Aborts (record_of closed r.number r.highest))))
+        (Aborts (record_of closed r.number r.highest)))))
     go true true i e = w (after r.control p) e
     go true false i e = q (after r.control p)
     go false y true e = q closed
@@ -372,13 +373,13 @@ module _ (text : Side → ℕ → Body) (fresh : Side → Numbered Held) (from :
   abbrev ended₁ : Holds
   ended₁ = record_of (after (held_in l).control (DEndCnf Accepted)) (held_in l).number (held_in l).highest
 
-  met_end : expects sd (held_in l).control (DEndCnf Accepted) ≡ true → met_by sd (held_in l) (DEndCnf Accepted) ≡ Quiet ended₁
+  met_end : expects sd (held_in l).control (DEndCnf Accepted) ≡ true → Some (met_by sd (held_in l) (DEndCnf Accepted)) ≡ Some (Quiet ended₁)
   unfolding met_by
-  met_end h = ap (λ (v : Bool). cond v (Quiet ended₁) (cond (is_idle (held_in l).control && true)
+  met_end h = ap (λ (v : Bool). Some (cond v (Quiet ended₁) (cond (is_idle (held_in l).control && true)
       (Quiet (record_of closed (held_in l).number (held_in l).highest))
-      (Aborts (record_of closed (held_in l).number (held_in l).highest)))) h
+      (Aborts (record_of closed (held_in l).number (held_in l).highest))))) h
 
-  met_ended : (x : Done) → x ≡ Quiet ended₁ → met_done l b 0 2 x ≡ beside (quieted l ended₁ 2) b
+  met_ended : (x : Option Done) → x ≡ Some (Quiet ended₁) → met_done l b 0 2 x ≡ beside (quieted l ended₁ 2) b
   unfolding met_done
   met_ended x h = ap (met_done l b 0 2) h
 
@@ -387,8 +388,8 @@ module _ (text : Side → ℕ → Body) (fresh : Side → Numbered Held) (from :
   unfolding meeting
   end_met q h =
       let i : steps.is_idle l ≡ false = sym (idle_is l) ∙ busy (held_in l).control h in
-      let r : received_of sd (held_in l) (DEndCnf Accepted) no ≡ Quiet ended₁ = ap
-      (λ (v : Bool). cond v (met_by sd (held_in l) (DEndCnf Accepted)) Refused) (eq-eqb no (held_in l).number q) ∙
+      let r : received_of sd (held_in l) (DEndCnf Accepted) no ≡ Some (Quiet ended₁) = ap
+      (λ (v : Bool). cond v (Some (met_by sd (held_in l) (DEndCnf Accepted))) None) (eq-eqb no (held_in l).number q) ∙
       met_end h in
       ap (λ (v : Bool). cond (cond v true false) (beside (quieted l (held_in l) 2) b)
       (met_done l b 0 2 (received_of sd (held_in l) (DEndCnf Accepted) no))) i
@@ -405,7 +406,7 @@ module _ (text : Side → ℕ → Body) (fresh : Side → Numbered Held) (from :
       let one₁ : Numbered Ent = mark no (ent (DEndCnf Accepted) []) in
       let f : first ≡ one₁ = ap (λ (v : ℕ). mark no (ent (primitive_of v) (cond (eqb v 4) (text (other sd) (entry_in z 0 2)) []))) six in
       let r : M.at.receive sd (rec_of (held_in l)) one₁ ≡ acts (rec_of ended₁) [] nothing = receive_is sd (held_in l) (DEndCnf Accepted) no []
-      ∙ ap (λ (v : Bool). arrival_done [] (cond v (met_by sd (held_in l) (DEndCnf Accepted)) Refused))
+      ∙ ap (λ (v : Bool). arrival_done [] (cond v (Some (met_by sd (held_in l) (DEndCnf Accepted))) None))
       (eq-eqb no (held_in l).number q) ∙ ap (arrival_done []) (met_end x) in
       let a : (ltb (get_or z 6 0) (length (one₁ ∷ rest)) &&
       (eqb no (held_in l).number && expects sd (held_in l).control (DEndCnf Accepted))) ≡ true =
@@ -464,13 +465,13 @@ module _ (text : Side → ℕ → Body) (fresh : Side → Numbered Held) (from :
         (differ (held_in l).number no (λ (w : (held_in l).number ≡ no). omega (arith, w, ltb-true (held_in l).number no q))))
 
     -- what the tables do with an answer of the machine
-    abbrev Meets : Done → Type 0
+    abbrev Meets : Option Done → Type 0
     Meets x = M.at.receive sd (rec_of (held_in l)) first ≡ arrival_done body x → (met_done l b most (fate_of kd no (get_or l 2 0)) x).rule ≡ 0
         → Follows text fresh from sd d e l z b (met_done l b most (fate_of kd no (get_or l 2 0)) x).here y₀
         (met_done l b most (fate_of kd no (get_or l 2 0)) x).broken
 
     module _ (heeds : (is_idle (held_in l).control && not (begins? (sort_of p₁))) ≡ false) where
-      meets_quiet : (f : Holds) → SameFate f → Meets (Quiet f)
+      meets_quiet : (f : Holds) → SameFate f → Meets (Some (Quiet f))
       unfolding met_done
       meets_quiet f same r h =
           quiet_follows f most same
@@ -478,7 +479,7 @@ module _ (text : Side → ℕ → Body) (fresh : Side → Numbered Held) (from :
           (notes_of text d l) (get_or l 6 0) (held_in z) first rest (notes_of text e z) (get_or z 6 0)
           (not (eqb (get_or z 5 0) 0)) (power_of (get_or z 4 0)) (broken_of b) g j most came heeds f r) h
 
-      meets_shows : (f : Holds) → (broken_by || not (eqb (held_in l).number f.number)) ≡ false → Meets (Shows f)
+      meets_shows : (f : Holds) → (broken_by || not (eqb (held_in l).number f.number)) ≡ false → Meets (Some (Shows f))
       unfolding met_done
       meets_shows f same r h =
           shows_follows f most same
@@ -486,7 +487,7 @@ module _ (text : Side → ℕ → Body) (fresh : Side → Numbered Held) (from :
           (notes_of text d l) (get_or l 6 0) (held_in z) first rest (notes_of text e z) (get_or z 6 0)
           (not (eqb (get_or z 5 0) 0)) (power_of (get_or z 4 0)) (broken_of b) g j most came heeds f body r)
 
-      meets_aborts : (f : Holds) → Meets (Aborts f)
+      meets_aborts : (f : Holds) → Meets (Some (Aborts f))
       unfolding met_done
       meets_aborts f r h =
           answer_follows f most
@@ -494,7 +495,7 @@ module _ (text : Side → ℕ → Body) (fresh : Side → Numbered Held) (from :
           (notes_of text d l) (get_or l 6 0) (held_in z) first rest (notes_of text e z) (get_or z 6 0)
           (not (eqb (get_or z 5 0) 0)) (power_of (get_or z 4 0)) (broken_of b) g j most came heeds f r) h
 
-      meets_refused : (broken_by || not (eqb (held_in l).number (held_in l).number)) ≡ false → Meets Refused
+      meets_refused : (broken_by || not (eqb (held_in l).number (held_in l).number)) ≡ false → Meets None
       unfolding met_done
       meets_refused same r h =
           stale_follows most same
@@ -524,7 +525,7 @@ module _ (text : Side → ℕ → Body) (fresh : Side → Numbered Held) (from :
 
       -- a start
       starts : is_opening p₁ ≡ true → (c : Bool) → ltb (held_in l).number no ≡ c
-          → Meets (cond c (met_by sd (record_of (held_in l).control no (held_in l).highest) p₁) Refused)
+          → Meets (cond c (Some (met_by sd (record_of (held_in l).control no (held_in l).highest) p₁)) None)
       starts o true c =
           met_cases sd (record_of (held_in l).control no (held_in l).highest) p₁ Meets
           (λ (f : Control). meets_quiet (record_of f no (held_in l).highest) (same_start (record_of f no (held_in l).highest) o c refl))
@@ -533,7 +534,7 @@ module _ (text : Side → ℕ → Body) (fresh : Side → Numbered Held) (from :
       starts o false c = meets_refused (own_number broken_by (ap (λ (v : Bool). v && eqb no (held_in l).number) (start_plain p₁ o)))
 
       -- another primitive
-      others : is_opening p₁ ≡ false → (c : Bool) → eqb no (held_in l).number ≡ c → Meets (cond c (met_by sd (held_in l) p₁) Refused)
+      others : is_opening p₁ ≡ false → (c : Bool) → eqb no (held_in l).number ≡ c → Meets (cond c (Some (met_by sd (held_in l) p₁)) None)
       others o true c =
           met_cases sd (held_in l) p₁ Meets
           (λ (f : Control). meets_quiet (record_of f (held_in l).number (held_in l).highest)
@@ -546,8 +547,8 @@ module _ (text : Side → ℕ → Body) (fresh : Side → Numbered Held) (from :
 
       received : (c : Bool) → is_opening p₁ ≡ c
           → Meets (cond c (cond (ltb (held_in l).number no)
-          (met_by sd (record_of (held_in l).control no (held_in l).highest) p₁) Refused)
-          (cond (eqb no (held_in l).number) (met_by sd (held_in l) p₁) Refused))
+          (Some (met_by sd (record_of (held_in l).control no (held_in l).highest) p₁)) None)
+          (cond (eqb no (held_in l).number) (Some (met_by sd (held_in l) p₁)) None))
       received true c = starts c (ltb (held_in l).number no) refl
       received false c = others c (eqb no (held_in l).number) refl
 

@@ -1,31 +1,30 @@
 -- The moves of the host alone: where the tables answer 0, they follow the model.
 -- Assumes nothing.
 use mathlib.Core.Path.{◌≡◌, refl, ap, sym, subst, ◌∙◌}
-use mathlib.Core.Bool.{Bool, true, false, not, cond, ◌&&◌, ◌||◌}
-use mathlib.Core.List.{List, [], ◌∷◌, ◌++◌}
-use Prim.Native.Nat.{ℕ, zero, suc, ◌+◌, ◌-◌, ◌≤◌, ◌<◌}
+use mathlib.Core.Bool.{Bool, true, false, not, cond, ◌&&◌}
+use mathlib.Core.List.{List, [], ◌∷◌}
+use Prim.Native.Nat.{ℕ, zero, suc, ◌-◌, ◌≤◌, ◌<◌}
 use native.Mathlib.Omega.{arith}
-use borrow.Author.Tests.{eqb-true, eqb-false, ltb-false, eq-eqb, ne_eqb}
+use borrow.Author.Tests.{eqb-true, eqb-false, ltb-false}
 use lib.Dec.{eqb, ltb, eqb-suc-zero}
-use lib.ListN.{length, get_or, set, length-set}
+use lib.ListN.{get_or, set, length-set}
 use Rattle.pair.specs.Names.{Side, other, is_idle}
 use Rattle.pair.specs.Carrier.{Body}
 use Rattle.pair.specs.Numbered.{Numbered, starter}
-use Rattle.pair.proofs.ControlMachine.{Held, Ent, Ask}
-use Rattle.duties.specs.Memory.{Decision, Notes, is_decided, tells, told_broken, told_ended}
+use Rattle.pair.proofs.ControlMachine.{Held, Ask}
+use Rattle.duties.specs.Memory.{Decision, is_decided, tells, told_broken, told_ended}
 use Rattle.duties.specs.Host.{Power, up, apart, down, Act, shows, release, acknowledge, connection_released, give_up, power_fails, cut_off}
-use Rattle.moves.specs.declared.Held.{Held as Holds}
 use Rattle.moves_laws.specs.Pages.{Beside, is_released}
 use Rattle.moves_laws.proofs.Machine.{rec_of}
 use Rattle.moves_laws.proofs.Steps.{M, Page, page, Lands, shows_lands, shows_apart_lands, sends_lands, gives_up_lands, released_lands, acknowledges_lands, acknowledges_apart_lands, power_lands, power_apart_lands, power_down_lands, cut_lands, cut_down_lands, cut_apart_lands}
-use Rattle.tables.specs.Tables.{Leaves, state_of, held_in, among, told}
+use Rattle.tables.specs.Tables.{state_of, held_in, among, told}
 use Rattle.tables.specs.Steps.{One, one, as_rule, room, is_up_of, is_down, decided_in, shown_to, departed, acknowledged, released_by, gave_up, power_failed, cut_off_of}
 use Rattle.tables.specs.Steps as steps
-use Rattle.tables.proofs.Tables.{get_same, get_other, size}
+use Rattle.tables.proofs.Tables.{get_same, get_other}
 use Rattle.tables_laws.proofs.Reading.{fate_in, power_of, line_from, line_of, notes_of, page_of, broken_of, Sound, Counted}
-use Rattle.tables_laws.proofs.Places.{Same, same_then, same_set, same_below, same_above}
+use Rattle.tables_laws.proofs.Places.{Same, same_then, same_below, same_above}
 use Rattle.tables_laws.proofs.Effects.{never, held_same}
-use Rattle.tables_laws.proofs.Follow.{past, upon, roomy, page_path, low_sound, low_line, low_notes, TellsAll, tells_all, move_of, Lands1, Made, one_act, as_pages, Follows}
+use Rattle.tables_laws.proofs.Follow.{past, upon, roomy, page_path, low_sound, low_line, low_notes, TellsAll, tells_all, move_of, Lands1, one_act, as_pages, Follows}
 
 abbrev rule : One → ℕ
 rule o = o.rule

@@ -1,36 +1,35 @@
 -- Jobs, starts and the calls that send: where the tables answer 0, they follow the model.
 -- Assumes nothing.
 use mathlib.Core.Path.{◌≡◌, refl, ap, sym, subst, ◌∙◌}
-use mathlib.Core.Bool.{Bool, true, false, not, cond, ◌&&◌, ◌||◌}
+use mathlib.Core.Bool.{Bool, true, false, not, cond, ◌&&◌}
 use mathlib.Core.List.{List, [], ◌∷◌, ◌++◌}
-use Prim.Native.Nat.{ℕ, zero, suc, ◌+◌, ◌-◌, ◌≤◌, ◌<◌}
+use Prim.Native.Nat.{ℕ, suc, ◌≤◌, ◌<◌}
 use native.Mathlib.Omega.{arith}
-use borrow.Author.Tests.{eqb-true, eqb-false}
 use lib.Dec.{eqb, leb, ltb}
-use lib.ListN.{length, get_or, set, length-set}
-use Rattle.pair.specs.Names.{Side, other, is_idle, Call, StartRequest, StartResponse, MessageRequest, EndRequest, EndResponse, UserAbort, TimerExpiry, SystemError, Reply, Accepted, Rejected, Primitive, DStart, DData, takes, goes, sends, may_start}
-use Rattle.pair.specs.Carrier.{Body, Sort, plain, user_call}
+use lib.ListN.{get_or}
+use Rattle.pair.specs.Names.{Side, other, is_idle, Call, StartRequest, StartResponse, MessageRequest, EndRequest, EndResponse, Reply, Accepted, Rejected, DStart, DData, takes, goes, sends, may_start}
+use Rattle.pair.specs.Carrier.{Body, plain, user_call}
 use Rattle.pair.specs.Numbered.{Numbered, mark, starter}
-use Rattle.pair.proofs.ControlMachine.{Held, Ent, ent, Ask, ask, sort_of}
+use Rattle.pair.proofs.ControlMachine.{Held, Ent, ent, ask, sort_of}
 use Rattle.duties.specs.Memory.{Decision, job_taken, job_refused, Notes, Notice, note, told_refused, is_decided, decide, declines, tells, told_broken}
 use Rattle.duties.specs.Memory as memory
-use Rattle.duties.specs.Host.{Power, up, apart, down, Act, deliver, lay_aside, happens}
+use Rattle.duties.specs.Host.{Power, up, apart, down, deliver, lay_aside, happens}
 use Rattle.moves.specs.declared.Held.{Held as Holds}
-use Rattle.moves.specs.declared.Done.{Done}
-use Rattle.moves.specs.declared.Done.TheVariants.{Refused, Quiet, Shows, Sends, Aborts}
+use Rattle.moves.specs.declared.Done.TheVariants.{Sends}
 use Rattle.moves.specs.Machine.{is_message, may_do, moved_by, called_of, holding as record_of}
 use Rattle.moves_laws.specs.Pages.{Beside}
-use Rattle.moves_laws.proofs.Steps.{M, Page, page, Lands, refuses_lands, refuses_apart_lands, takes_lands}
+use Rattle.moves_laws.proofs.Steps.{Page, page, Lands, refuses_lands, refuses_apart_lands, takes_lands}
 use Rattle.moves_laws.proofs.Events.{call_lands, start_lands}
-use Rattle.tables.specs.Tables.{Leaves, held_in, holding, among, pushed, noted, told, put_on_line}
+use Rattle.tables.specs.Tables.{Leaves, held_in, pushed, noted, told}
 use Rattle.tables.specs.Steps.{One, Two, one, two, beside, as_rule, is_up_of, is_down, ready_rule, decided_in, kind_sent, sent, call_done, made_call, on_start, start_told, start_done, started_by, on_opened, on_decided, taken_job, take_done_of, taken, on_refused, refused_job}
 use Rattle.tables.specs.Steps as steps
-use Rattle.tables_laws.proofs.Reading.{fate_in, jobs_from, notices_from, power_of, entry_of, line_of, notes_of, page_of, broken_of, Sound, Counted}
-use Rattle.tables_laws.proofs.Places.{Same, jobs_same}
-use Rattle.tables_laws.proofs.Effects.{never, held_same, Noted, put_noted}
+use Rattle.tables_laws.proofs.Reading.{jobs_from, power_of, entry_of, line_of, notes_of, page_of, broken_of, Sound, Counted}
+use Rattle.tables_laws.proofs.Places.{jobs_same}
+use Rattle.tables_laws.proofs.Effects.{never, held_same, put_noted}
 use Rattle.tables_laws.proofs.Follow.{past, upon, first_rule_is, roomy, page_path, notes_path, line_stays, decided_stays, tells_all, Lands1, Follows}
-use Rattle.tables_laws.proofs.HostMoves.{live, live_power, dead, up_power, alone_follows, idle_is, number_is}
+use Rattle.tables_laws.proofs.HostMoves.{live, live_power, dead, up_power, alone_follows, idle_is}
 use Rattle.tables_laws.proofs.Lines.{ready_is, sends_one, decides_one, opens_one}
+use Rattle.std.specs.Prelude.{None, Some}
 
 abbrev rule : One → ℕ
 rule o = o.rule
@@ -150,8 +149,8 @@ module _ (text : Side → ℕ → Body) (fresh : Side → Numbered Held) (from :
       (get_or l 6 0) far₀ (broken_of b) g i j new may))
 
   take_done : (j : ℕ) (c : Bool) → may_do sd (held_in l) MessageRequest 0 j ≡ c → ready_rule l ≡ 0 → is_decided (d j) ≡ false
-      → (take_done_of l j (cond c (Sends (moved_by (held_in l) MessageRequest 0 j)) Refused)).rule ≡ 0
-      → Follows text fresh from sd d e l z b (take_done_of l j (cond c (Sends (moved_by (held_in l) MessageRequest 0 j)) Refused)).here z b
+      → (take_done_of l j (cond c (Some (Sends (moved_by (held_in l) MessageRequest 0 j))) None)).rule ≡ 0
+      → Follows text fresh from sd d e l z b (take_done_of l j (cond c (Some (Sends (moved_by (held_in l) MessageRequest 0 j))) None)).here z b
   unfolding take_done_of
   take_done j true c ready new h = takes_follow j ready new c h
   take_done j false c ready new h = absurd (omega (arith, h))
@@ -201,13 +200,13 @@ module _ (text : Side → ℕ → Body) (fresh : Side → Numbered Held) (from :
       (start_lands text fresh sd (held_in l) (line_of text sd l) (notes_of text d l) (get_or l 6 0) (held_in z) (line_of text (other sd) z) (notes_of text e z) (get_or z 6 0) (not (eqb (get_or z 5 0) 0)) (power_of (get_or z 4 0)) (broken_of b) g i dsc n
       (and_right (takes sd (held_in l).control (StartRequest dsc)) (ltb (held_in l).number n) may)
       (ap (λ (v : Bool). v && is_idle (held_in z).control) here-idle ∙ idle_is z ∙ idle)
-      (ap (λ (v : Bool). cond v (Sends r) Refused) may))))
+      (ap (λ (v : Bool). cond v (Some (Sends r)) None) may))))
 
   start_done_is : (dsc : Bool) (n : ℕ) (c : Bool) → may_do sd (held_in l) (StartRequest dsc) n 0 ≡ c → starter from sd ≡ true
       → ready_rule l ≡ 0 → steps.is_idle z ≡ true
-      → (start_done l dsc (cond c (Sends (moved_by (held_in l) (StartRequest dsc) n 0)) Refused)).rule ≡ 0
+      → (start_done l dsc (cond c (Some (Sends (moved_by (held_in l) (StartRequest dsc) n 0))) None)).rule ≡ 0
       → Follows text fresh from sd d e l z b
-      (start_done l dsc (cond c (Sends (moved_by (held_in l) (StartRequest dsc) n 0)) Refused)).here z b
+      (start_done l dsc (cond c (Some (Sends (moved_by (held_in l) (StartRequest dsc) n 0))) None)).here z b
   unfolding start_done
   start_done_is dsc n true c from-here ready idle h = starts_follow dsc n from-here ready idle c h
   start_done_is dsc n false c from-here ready idle h = absurd (omega (arith, h))
@@ -232,7 +231,7 @@ module _ (text : Side → ℕ → Body) (fresh : Side → Numbered Held) (from :
 
   plain_follow : (u : Call) (most : ℕ) (r : Holds) → is_message u ≡ false → sort_of (sends u) ≡ plain
       → r ≡ record_of (goes (held_in l).control u) (held_in l).number (held_in l).highest
-      → ((n : ℕ) → entry_of text sd (kind_sent u) n 0 ≡ mark n (ent (sends u) [])) → ready_rule l ≡ 0 → called_of sd (held_in l) u 0 0 ≡ Sends r
+      → ((n : ℕ) → entry_of text sd (kind_sent u) n 0 ≡ mark n (ent (sends u) [])) → ready_rule l ≡ 0 → called_of sd (held_in l) u 0 0 ≡ Some (Sends r)
       → (sent l u r 0).rule ≡ 0 → Follows text fresh from sd d e l z b (sent l u r 0).here z b
   plain_follow u most r m p q en ready called h =
       let f : Holds = record_of (goes (held_in l).control u) (held_in l).number (held_in l).highest in
@@ -246,22 +245,22 @@ module _ (text : Side → ℕ → Body) (fresh : Side → Numbered Held) (from :
       (o.page_is ∙ page_path refl (ap (λ (i : Numbered Ent). line_of text sd l ++ (i ∷ [])) (en (held_in l).number))
       refl refl (ap not v.shown) (up_power l v.is_up))
       (λ (g i : Beside). call_lands text fresh (starter from sd) sd (held_in l) (line_of text sd l) (notes_of text d l)
-      (get_or l 6 0) far₀ (broken_of b) g i u (goes (held_in l).control u) most m p (called ∙ ap Sends q)))
+      (get_or l 6 0) far₀ (broken_of b) g i u (goes (held_in l).control u) most m p (called ∙ ap (λ (i : Holds). Some (Sends i)) q)))
 
   call_done_is : (u : Call) (most : ℕ) (r : Holds) (c : Bool) → is_message u ≡ false → sort_of (sends u) ≡ plain
       → r ≡ record_of (goes (held_in l).control u) (held_in l).number (held_in l).highest
       → ((n : ℕ) → entry_of text sd (kind_sent u) n 0 ≡ mark n (ent (sends u) [])) → ready_rule l ≡ 0 → called_of sd
-      (held_in l) u 0 0 ≡ cond c (Sends r) Refused
-      → (call_done l b u most (cond c (Sends r) Refused)).rule ≡ 0
-      → Follows text fresh from sd d e l z b (call_done l b u most (cond c (Sends r) Refused)).here z
-      (call_done l b u most (cond c (Sends r) Refused)).broken
+      (held_in l) u 0 0 ≡ cond c (Some (Sends r)) None
+      → (call_done l b u most (cond c (Some (Sends r)) None)).rule ≡ 0
+      → Follows text fresh from sd d e l z b (call_done l b u most (cond c (Some (Sends r)) None)).here z
+      (call_done l b u most (cond c (Some (Sends r)) None)).broken
   unfolding call_done
   call_done_is u most r true m p q en ready called h = plain_follow u most r m p q en ready called h
   call_done_is u most r false m p q en ready called h = absurd (omega (arith, h))
 
   called_follows : (u : Call) (most : ℕ) (r : Holds) (c : Bool) → is_message u ≡ false → sort_of (sends u) ≡ plain
       → r ≡ record_of (goes (held_in l).control u) (held_in l).number (held_in l).highest
-      → ((n : ℕ) → entry_of text sd (kind_sent u) n 0 ≡ mark n (ent (sends u) [])) → called_of sd (held_in l) u 0 0 ≡ cond c (Sends r) Refused
+      → ((n : ℕ) → entry_of text sd (kind_sent u) n 0 ≡ mark n (ent (sends u) [])) → called_of sd (held_in l) u 0 0 ≡ cond c (Some (Sends r)) None
       → (made_call l b sd u most).rule ≡ 0 → Follows text fresh from sd d e l z b (made_call l b sd u most).here z
       (made_call l b sd u most).broken
   unfolding made_call

@@ -1,29 +1,28 @@
 -- A call that sends, and a job that is decided or opened: what the page says after it.
 -- Assumes nothing.
 use mathlib.Core.Path.{◌≡◌, refl, ap, sym, subst, ◌∙◌}
-use mathlib.Core.Bool.{Bool, true, false, not, cond, ◌&&◌, ◌||◌}
+use mathlib.Core.Bool.{Bool, true, false, not, cond, ◌||◌}
 use mathlib.Core.List.{List, [], ◌∷◌, ◌++◌}
-use Prim.Native.Nat.{ℕ, zero, suc, ◌+◌, ◌-◌, ◌*◌, ◌≤◌, ◌<◌}
+use Prim.Native.Nat.{ℕ, suc, ◌+◌, ◌≤◌, ◌<◌}
 use native.Mathlib.Omega.{arith}
 use borrow.Author.Tests.{eqb-true, eqb-false, eq-eqb, ne_eqb, le-ltb}
 use lib.Dec.{eqb, ltb}
-use lib.ListN.{length, get_or, set, length-set}
+use lib.ListN.{get_or, set, length-set}
 use Rattle.pair.specs.Names.{Side}
 use Rattle.pair.specs.Carrier.{Body}
 use Rattle.pair.specs.Numbered.{Numbered}
 use Rattle.pair.proofs.ControlMachine.{Ent}
-use Rattle.duties.specs.Memory.{Decision, Notes, Notice, is_decided, decide}
-use Rattle.duties.specs.Host.{Power, up}
+use Rattle.duties.specs.Memory.{Decision, Notes, is_decided, decide}
 use Rattle.control.specs.declared.Call.{Call}
 use Rattle.moves.specs.declared.Held.{Held as Holds}
-use Rattle.moves_laws.proofs.Steps.{Page, page}
-use Rattle.tables.specs.Tables.{Leaves, held_in, holding, member, among, pushed, put_on_line}
-use Rattle.tables.specs.Steps.{One, is_up_of, ready_rule, kind_sent, sent}
-use Rattle.tables.proofs.Tables.{get_same, get_other, size, held_back}
-use Rattle.tables_laws.proofs.Reading.{jobs_from, notices_from, power_of, entry_of, line_from, line_of, notes_of, page_of, Sound}
-use Rattle.tables_laws.proofs.Places.{Same, same_then, same_below, same_above, jobs_same, jobs_more, notices_same, among_same}
-use Rattle.tables_laws.proofs.Effects.{never, held_same, hold_same, length_hold, Lined, put_lined, pushed_on, Pushed, put_pushed}
-use Rattle.tables_laws.proofs.Follow.{past, upon, roomy, page_path, line_stays, decided_stays, low_sound, low_line, low_notes, notes_stay}
+use Rattle.moves_laws.proofs.Steps.{page}
+use Rattle.tables.specs.Tables.{held_in, holding, member, among, pushed, put_on_line}
+use Rattle.tables.specs.Steps.{is_up_of, ready_rule, kind_sent, sent}
+use Rattle.tables.proofs.Tables.{get_same, get_other, held_back}
+use Rattle.tables_laws.proofs.Reading.{jobs_from, notices_from, power_of, entry_of, line_of, notes_of, page_of, Sound}
+use Rattle.tables_laws.proofs.Places.{Same, same_below, same_above, jobs_same, jobs_more, notices_same, among_same}
+use Rattle.tables_laws.proofs.Effects.{held_same, hold_same, length_hold, put_lined, pushed_on, put_pushed}
+use Rattle.tables_laws.proofs.Follow.{upon, roomy, page_path, line_stays, decided_stays, low_sound, low_line, low_notes, notes_stay}
 
 -- ---- the next call may be made
 

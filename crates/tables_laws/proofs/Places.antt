@@ -1,20 +1,20 @@
 -- What each change of a page leaves of what the page says.
 -- Assumes nothing.
-use mathlib.Core.Path.{◌≡◌, refl, ap, sym, subst, ◌∙◌}
-use mathlib.Core.Bool.{Bool, true, false, not, cond, ◌||◌}
+use mathlib.Core.Path.{◌≡◌, refl, ap, sym, ◌∙◌}
+use mathlib.Core.Bool.{Bool, cond, ◌||◌}
 use mathlib.Core.List.{List, [], ◌∷◌, ◌++◌}
-use Prim.Native.Nat.{ℕ, zero, suc, ◌+◌, ◌-◌, ◌*◌, ◌≤◌, ◌<◌}
+use Prim.Native.Nat.{ℕ, zero, suc, ◌+◌, ◌*◌, ◌≤◌, ◌<◌}
 use native.Mathlib.Omega.{arith}
-use borrow.Author.Tests.{lt-leb, le-leb, lt-ltb, le-ltb, ltb-true, leb-false, eqb-true, eqb-false}
-use lib.Dec.{eqb, leb, ltb}
-use lib.ListN.{length, get_or, set, length-set}
+use borrow.Author.Tests.{lt-leb, le-ltb}
+use lib.Dec.{eqb, ltb}
+use lib.ListN.{get_or, set}
 use Rattle.pair.specs.Names.{Side}
 use Rattle.pair.specs.Carrier.{Body}
 use Rattle.pair.specs.Numbered.{Numbered}
 use Rattle.pair.proofs.ControlMachine.{Ent}
-use Rattle.duties.specs.Memory.{Notice, Fate, note, each}
-use Rattle.tables.specs.Tables.{Leaves, left, and_then, held_in, member, among, pushed, noted, tell_on, told, entry_in, set_entry, put_on_line}
-use Rattle.tables.proofs.Tables.{get_same, get_other, size}
+use Rattle.duties.specs.Memory.{Notice, note}
+use Rattle.tables.specs.Tables.{member, among, entry_in}
+use Rattle.tables.proofs.Tables.{get_other}
 use Rattle.tables_laws.proofs.Reading.{jobs_from, fate_in, notice_at, notices_from, entry_of, entry_at, line_from}
 
 -- ---- small facts

@@ -2,7 +2,7 @@
 -- Assumes nothing.
 use mathlib.Core.Path.{◌≡◌, refl, ap, sym, subst, ◌∙◌}
 use mathlib.Core.Bool.{Bool, true, false, not, cond}
-use mathlib.Core.List.{List, [], ◌∷◌}
+use mathlib.Core.List.{List, ◌∷◌}
 use Prim.Native.Nat.{ℕ, zero, suc, ◌+◌, ◌-◌, ◌*◌, ◌≤◌, ◌<◌}
 use native.Mathlib.Omega.{arith}
 use borrow.Author.Tests.{eqb-true, eqb-false, lt-leb, le-leb, leb-true, leb-false}
@@ -13,11 +13,11 @@ use Rattle.pair.specs.Carrier.{Body}
 use Rattle.pair.specs.Numbered.{Numbered}
 use Rattle.pair.proofs.ControlMachine.{Ent}
 use Rattle.duties.specs.Memory.{Decision}
-use Rattle.moves_laws.proofs.Steps.{Page, page}
+use Rattle.moves_laws.proofs.Steps.{page}
 use Rattle.tables.specs.Tables.{held_in, entry_in, set_entry, drawn, draw_on, removed}
-use Rattle.tables.proofs.Tables.{get_same, get_other, size, Entry, entry_there}
+use Rattle.tables.proofs.Tables.{get_same, size, Entry, entry_there}
 use Rattle.tables_laws.proofs.Reading.{power_of, entry_at, line_from, line_of, notes_of, page_of, Sound}
-use Rattle.tables_laws.proofs.Places.{Same, same_then, same_below, same_above, entry_is, line_fields}
+use Rattle.tables_laws.proofs.Places.{Same, same_below, same_above, entry_is, line_fields}
 use Rattle.tables_laws.proofs.Effects.{held_same, entry_before, entry_behind, length_entry, line_within}
 use Rattle.tables_laws.proofs.Follow.{page_path, notes_stay, decided_stays}
 

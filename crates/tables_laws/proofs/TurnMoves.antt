@@ -7,34 +7,35 @@ use Prim.Native.Nat.{ℕ, zero, suc, ◌+◌, ◌-◌, ◌*◌, ◌≤◌, ◌<�
 use native.Mathlib.Omega.{arith}
 use borrow.Author.Tests.{eqb-true, lt-leb, leb-false, le-ltb}
 use lib.Dec.{eqb, leb, ltb}
-use lib.ListN.{length, get_or, set, length-set}
+use lib.ListN.{get_or, set, length-set}
 use Rattle.pair.specs.Names.{Side, other, Control, DTurnedAway, StartReq, is}
 use Rattle.pair.specs.Carrier.{Body, nothing, acts, turn_away}
-use Rattle.pair.specs.Numbered.{Numbered, mark, starter, start_of, n_has_start, n_without_start}
-use Rattle.pair.proofs.ControlMachine.{Held, Ent, ent, Ask}
+use Rattle.pair.specs.Numbered.{Numbered, starter, start_of, n_has_start, n_without_start}
+use Rattle.pair.proofs.ControlMachine.{Held, Ent}
 use Rattle.pair.proofs.NumberedLines.{self}
 use Rattle.duties.specs.Memory.{Decision, Notes, tells, told_broken}
-use Rattle.duties.specs.Host.{Power, up, happens, release}
+use Rattle.duties.specs.Host.{up, happens, release}
 use Rattle.moves.specs.declared.Held.{Held as Holds}
 use Rattle.moves.specs.declared.Done.{Done}
-use Rattle.moves.specs.declared.Done.TheVariants.{Refused, Quiet, Shows, Sends, Aborts}
+use Rattle.moves.specs.declared.Done.TheVariants.{Quiet, Shows, Aborts}
 use Rattle.moves.specs.Machine.{is_opening, is_data, met_by, received_of, holding as record_of}
 use Rattle.moves_laws.specs.Pages.{Beside}
 use Rattle.moves_laws.proofs.Machine.{rec_of, arrival_done, met_is}
-use Rattle.moves_laws.proofs.Steps.{M, Page, page, Lands, sends_lands}
+use Rattle.moves_laws.proofs.Steps.{M, Page, page, sends_lands}
 use Rattle.moves_laws.proofs.Failures.{turned_lands}
-use Rattle.tables.specs.Tables.{Leaves, state_of, held_in, holding, entry_in, is_start_of, start_on, start_in, draw_on, removed, told}
-use Rattle.tables.specs.Steps.{One, one, as_rule, ready_rule, primitive_of, turned_to, turn_done, turned_back}
-use Rattle.tables.proofs.Tables.{get_same, get_other, size}
+use Rattle.tables.specs.Tables.{state_of, held_in, holding, entry_in, is_start_of, start_on, start_in, draw_on, removed, told}
+use Rattle.tables.specs.Steps.{One, one, ready_rule, primitive_of, turned_to, turn_done, turned_back}
+use Rattle.tables.proofs.Tables.{get_same}
 use Rattle.tables_laws.proofs.Reading.{power_of, entry_at, line_from, line_of, notes_of, page_of, broken_of, Sound, Counted}
-use Rattle.tables_laws.proofs.Places.{Same, same_then, same_below, same_above, line_fields}
-use Rattle.tables_laws.proofs.Effects.{never, held_same, line_within}
-use Rattle.tables_laws.proofs.Follow.{past, upon, first_rule_is, roomy, page_path, notes_stay, decided_stays, move_of, Lands1, one_act, more_acts, as_pages, Follows}
+use Rattle.tables_laws.proofs.Places.{Same, same_below, same_above, line_fields}
+use Rattle.tables_laws.proofs.Effects.{line_within}
+use Rattle.tables_laws.proofs.Follow.{past, upon, first_rule_is, page_path, notes_stay, decided_stays, move_of, one_act, more_acts, as_pages, Follows}
 use Rattle.tables_laws.proofs.HostMoves.{up_power}
 use Rattle.tables_laws.proofs.Lines.{ready_is}
 use Rattle.tables_laws.proofs.JobMoves.{ready_page}
 use Rattle.tables_laws.proofs.Removes.{Drawn, draws}
 use Rattle.tables_laws.proofs.HearMoves.{begins_is, and_cond, met_cases, quiet_by}
+use Rattle.std.specs.Prelude.{None, Option, Some}
 
 abbrev rule : One → ℕ
 rule o = o.rule
@@ -257,24 +258,24 @@ module _ (text : Side → ℕ → Body) (fresh : Side → Numbered Held) (from :
             (λ (i j : Beside). sends_lands text fresh (starter from sd) sd f line notes (get_or l 6 0) false far₀ (broken_of b) i j)));
       }
 
-  abbrev Turns : Done → Type 0
+  abbrev Turns : Option Done → Type 0
   Turns x = M.at.away sd (rec_of (held_in l)) ≡ arrival_done [] x → (turn_done l at₀ x).rule ≡ 0 → Follows text fresh from
       sd d e l z b (turn_done l at₀ x).here z b
 
   module _ (ready : ready_rule l ≡ 0) (starting : get_or l 0 0 ≡ 1) (here : at₀ < get_or l 7 0) where
-    turn_quiet : (f : Holds) → Turns (Quiet f)
+    turn_quiet : (f : Holds) → Turns (Some (Quiet f))
     unfolding turn_done
     turn_quiet f a h = turns_follow f ready starting here a h
 
-    turn_shows : (f : Holds) → Turns (Shows f)
+    turn_shows : (f : Holds) → Turns (Some (Shows f))
     unfolding turn_done
     turn_shows f a h = absurd (omega (arith, h))
 
-    turn_aborts : (f : Holds) → Turns (Aborts f)
+    turn_aborts : (f : Holds) → Turns (Some (Aborts f))
     unfolding turn_done
     turn_aborts f a h = absurd (omega (arith, h))
 
-    turns_all : Turns (met_by sd (held_in l) DTurnedAway)
+    turns_all : Turns (Some (met_by sd (held_in l) DTurnedAway))
     turns_all =
         met_cases sd (held_in l) DTurnedAway Turns
         (λ (c : Control). turn_quiet (record_of c (held_in l).number (held_in l).highest))
@@ -290,8 +291,8 @@ module _ (text : Side → ℕ → Body) (fresh : Side → Numbered Held) (from :
       let a1 = first_rule_is rule (ready_rule l) (cond (eqb (get_or l 0 0) 1) o2 (one 21 l)) (one (ready_rule l) l) refl h in
       let a2 = upon rule (eqb (get_or l 0 0) 1) o2 (one 21 l) (λ (v : 21 ≡ 0). omega (arith, v)) (ap rule (sym a1.1) ∙ h) in
       let a3 = past rule (leb (get_or l 7 0) at₀) (one 21 l) o3 (λ (v : 21 ≡ 0). omega (arith, v)) (ap rule (sym (a1.1 ∙ a2.1)) ∙ h) in
-      let r : received_of sd (held_in l) DTurnedAway n ≡ met_by sd (held_in l) DTurnedAway = ap
-      (λ (v : Bool). cond v (met_by sd (held_in l) DTurnedAway) Refused) (self n) in
+      let r : received_of sd (held_in l) DTurnedAway n ≡ Some (met_by sd (held_in l) DTurnedAway) = ap
+      (λ (v : Bool). cond v (Some (met_by sd (held_in l) DTurnedAway)) None) (self n) in
       let q = a1.1 ∙ a2.1 ∙ a3.1 ∙ ap (turn_done l at₀) r in
       subst (λ (o : One). Follows text fresh from sd d e l z b o.here z b) (sym q)
       (turns_all a1.0 (eqb-true (get_or l 0 0) 1 a2.0) (leb-false (get_or l 7 0) at₀ a3.0)

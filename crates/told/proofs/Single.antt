@@ -41,10 +41,10 @@ use Rattle.machine.specs.declared.event.ServicePrimitive.TheVariants.{DStartIndi
 use Rattle.machine.specs.declared.event.Event.{Event}
 use Rattle.machine.specs.declared.event.Event.TheVariants.{User, Forward, Service, TimerExpires, UnrecoverableSystemError}
 use Rattle.machine.specs.declared.faults.Fault.{Fault}
-use Rattle.machine.specs.declared.faults.Fault.TheVariants.{NoFault, NoInstruction, Quality, TurnedAway, Security, Missing, Invalid, NotPermitted}
+use Rattle.machine.specs.declared.faults.Fault.TheVariants.{NoInstruction, Quality, TurnedAway, Security, Missing, Invalid, NotPermitted}
 use Rattle.machine.specs.declared.outcome.StepRefusal.TheVariants.{Stale}
 use Rattle.machine.specs.declared.outcome.Told.{Told}
-use Rattle.machine.specs.declared.outcome.Told.TheVariants.{Untold, StartIndication, StartConfirmation, MessageIndication, EndIndication, EndConfirmation, ProviderAbortIndication, UserAbortIndication, ForwardIndication, ForwardConfirmation}
+use Rattle.machine.specs.declared.outcome.Told.TheVariants.{StartIndication, StartConfirmation, MessageIndication, EndIndication, EndConfirmation, ProviderAbortIndication, UserAbortIndication, ForwardIndication, ForwardConfirmation}
 use Rattle.machine.specs.declared.outcome.Outcome.{Outcome}
 use Rattle.clauses.proofs.Laws.{step_formed, refused_same}
 use Rattle.clauses.proofs.Ways.{Way, is_refused, is_closed, is_aborted, is_started, is_message, is_called, is_invited, is_confirmed, is_forwarding, is_responding, is_forwarded, is_read, ways, by_test, passed, pdu_fits, start_there, send_expected, fits_expected, response_there, not_response, not_refused}
@@ -53,6 +53,7 @@ use Rattle.numbered.proofs.Laws.{numbered_is}
 use Rattle.told.specs.Lists.{Item, start_request, start_indication, start_response, start_confirmation, end_response, end_confirmation, user_abort_request, user_abort_indication, provider_abort_indication, forward_request, forward_confirmation, unlisted, is_item, periods, among, begins, ends, invocation_of, receipt_of}
 use Rattle.told.proofs.Chains.{Lawful, refused_law}
 use Rattle.told.specs.Histories.{NumberedEvent, End, Entry, entry, outcome_of, next, one}
+use Rattle.std.specs.Prelude.{None, Option, Some}
 
 -- ---- the law of one event as a test
 
@@ -87,10 +88,10 @@ is_fair p act clo call ab q h =
     }
 
 -- the entry of an event that was taken, with what the user was told
-abbrev shown : Event → Told → Entry
+abbrev shown : Event → Option Told → Entry
 shown e t = record { taken = true; invocation = invocation_of e; receipt = receipt_of t }
 
-taken_law : (sd : Side) (p : Bool) (e : Event) (t : Told) (q : Bool)
+taken_law : (sd : Side) (p : Bool) (e : Event) (t : Option Told) (q : Bool)
     → lawful sd p (invocation_of e) (receipt_of t) q ≡ true → Lawful sd p (shown e t) q
 taken_law sd p e t q h =
     let f = is_fair p (begins (periods sd) (invocation_of e) || begins (periods sd) (receipt_of t))
@@ -191,7 +192,7 @@ confirmed_lawful c e = imp_e (awaits_response c) _ (at_control confirmed_at conf
 
 -- an abort that is told to an active user, and nothing to another
 tells_lawful : (sd : Side) (b u : Bool) (x : ℕ)
-    → lawful sd b unlisted (receipt_of (cond b (cond u (UserAbortIndication x) (ProviderAbortIndication x)) Untold)) false ≡ true
+    → lawful sd b unlisted (receipt_of (cond b (cond u (Some (UserAbortIndication x)) (Some (ProviderAbortIndication x))) None)) false ≡ true
 unfolding begins ends among imp
 tells_lawful Air true true x = refl
 tells_lawful Air true false x = refl
@@ -250,9 +251,9 @@ lawful_at sd p p' i i' t t' q q' a b c d e = rw (a, b, c, d) e
 
 sent_law : (sd : Side) (r : Record) (e : Event) (k : Call) → r.active ≡ not (is_idle r.control)
     → takes sd r.control k ≡ true → users k ≡ true → busy k ≡ true → invocation_of e ≡ call_item k
-    → Lawful sd r.active (shown e Untold) (not (is_idle (goes r.control k)) && r.active)
+    → Lawful sd r.active (shown e None) (not (is_idle (goes r.control k)) && r.active)
 sent_law sd r e k h t u b i =
-    taken_law sd r.active e Untold (not (is_idle (goes r.control k)) && r.active)
+    taken_law sd r.active e None (not (is_idle (goes r.control k)) && r.active)
     (lawful_at sd r.active (not (is_idle r.control)) (invocation_of e) (call_item k) unlisted unlisted _ (not (is_idle (goes r.control k))) h i refl
     (ap (λ (z : Bool). not (is_idle (goes r.control k)) && z) h ∙ call_held_is sd r.control k t b) (call_lawful sd r.control k t u))
 
@@ -261,7 +262,7 @@ user_law : (sd : Side) (r : Record) → r.active ≡ not (is_idle r.control) →
     → Lawful sd r.active (entry (User u) (called r u)) (called r u).next.active
 unfolding called call_of requested responded message_request end_request endResponded user_abort sent enter
 user_law sd r h (StartServiceRequest m k s) t =
-    taken_law sd r.active (User (StartServiceRequest m k s)) Untold true
+    taken_law sd r.active (User (StartServiceRequest m k s)) None true
     (lawful_at sd r.active (not (is_idle r.control)) _ _ unlisted unlisted true true h refl refl refl
     (call_lawful sd r.control (call_of (StartServiceRequest m k s)) t refl))
 user_law sd r h (StartServiceResponse m x g) t = sent_law sd r (User (StartServiceResponse m x g))
@@ -276,13 +277,13 @@ user_law sd r h (UserAbortServiceRequest g x) t = sent_law sd r (User (UserAbort
 
 module _ (sd : Side) (r : Record) (e : Event) (i : invocation_of e ≡ unlisted) where
   told_law : (u : Bool) (x : ℕ)
-      → Lawful sd r.active (shown e (tell r (cond u (UserAbortIndication x) (ProviderAbortIndication x)))) false
+      → Lawful sd r.active (shown e (tell r (cond u (Some (UserAbortIndication x)) (Some (ProviderAbortIndication x))))) false
   unfolding tell
-  told_law u x = taken_law sd r.active e (tell r (cond u (UserAbortIndication x) (ProviderAbortIndication x))) false (
+  told_law u x = taken_law sd r.active e (tell r (cond u (Some (UserAbortIndication x)) (Some (ProviderAbortIndication x)))) false (
       lawful_at sd r.active r.active (invocation_of e) unlisted _ _ false false refl i refl refl
       (tells_lawful sd r.active u x))
 
-  quiet_law : (t : Told) → receipt_of t ≡ unlisted → r.active ≡ false → Lawful sd r.active (shown e t) false
+  quiet_law : (t : Option Told) → receipt_of t ≡ unlisted → r.active ≡ false → Lawful sd r.active (shown e t) false
   quiet_law t k h = taken_law sd r.active e t false (lawful_at sd r.active false (invocation_of e) unlisted
       (receipt_of t) unlisted false false h i k refl (nothing_lawful sd))
 
@@ -302,23 +303,23 @@ none_law : (sd : Side) (r : Record) (e : Event) → invocation_of e ≡ unlisted
     → (x : Bool) → LawOf sd r e (no_instruction r x)
 unfolding no_instruction closes enter
 none_law sd r e i h x =
-    by_test (LawOf sd r e) (is_idle r.control) _ _ (λ k. quiet_law sd r e i Untold refl (idle_inactive r h k))
+    by_test (LawOf sd r e) (is_idle r.control) _ _ (λ k. quiet_law sd r e i None refl (idle_inactive r h k))
     (λ k. except_law sd r e i x _ _)
 
 -- ---- a primitive of the dialogue service without a fault
 
-abbrev is_no_fault : Fault → Bool
-is_no_fault NoFault = true
-is_no_fault (NoInstruction live) = false
-is_no_fault Quality = false
-is_no_fault TurnedAway = false
-is_no_fault (Security live) = false
-is_no_fault Missing = false
-is_no_fault (Invalid live) = false
-is_no_fault (NotPermitted live) = false
+abbrev is_no_fault : Option Fault → Bool
+is_no_fault None = true
+is_no_fault (Some (NoInstruction live)) = false
+is_no_fault (Some Quality) = false
+is_no_fault (Some TurnedAway) = false
+is_no_fault (Some (Security live)) = false
+is_no_fault (Some Missing) = false
+is_no_fault (Some (Invalid live)) = false
+is_no_fault (Some (NotPermitted live)) = false
 
 -- one that is handed on, at a record whose user is active exactly outside IDLE; q is whether the user is active then
-handed_law : (sd : Side) (r : Record) (e : Event) (p : Primitive) (t : Told) (q : Bool) → invocation_of e ≡ unlisted
+handed_law : (sd : Side) (r : Record) (e : Event) (p : Primitive) (t : Option Told) (q : Bool) → invocation_of e ≡ unlisted
     → r.active ≡ not (is_idle r.control) → expects sd r.control p ≡ true → handing p ≡ true
     → receipt_of t ≡ primitive_item r.control.dsc p → q ≡ not (is_idle (after r.control p)) → Lawful sd r.active (shown e t) q
 handed_law sd r e p t q i h x n k a =
@@ -328,7 +329,7 @@ handed_law sd r e p t q i h x n k a =
     (primitive_lawful sd r.control p x n))
 
 -- one inside a dialogue: the user stays as it is until IDLE
-read_law : (sd : Side) (r : Record) (e : Event) (p : Primitive) (t : Told) → invocation_of e ≡ unlisted
+read_law : (sd : Side) (r : Record) (e : Event) (p : Primitive) (t : Option Told) → invocation_of e ≡ unlisted
     → r.active ≡ not (is_idle r.control) → expects sd r.control p ≡ true → handing p ≡ true
     → not (is_start p) ≡ true
     → receipt_of t ≡ primitive_item r.control.dsc p → LawOf sd r e (handed r p t)
@@ -344,15 +345,15 @@ module _ (sd : Side) (r : Record) (f : Runs sd r) where
   arrives_law : (e : Event) → invocation_of e ≡ unlisted → is_idle r.control ≡ true → (s v : ℕ) → LawOf sd r e (forward_arrives r s v)
   unfolding forward_arrives responds enter
   arrives_law e i k s v =
-      by_test (LawOf sd r e) (not r.forwards) _ _ (λ y. quiet_law sd r e i Untold refl (idle_inactive r user k))
+      by_test (LawOf sd r e) (not r.forwards) _ _ (λ y. quiet_law sd r e i None refl (idle_inactive r user k))
       (λ y. by_test (LawOf sd r e) (eqb v r.version) _ _
-      (λ z. quiet_law sd r e i ForwardIndication refl (idle_inactive r user k))
-      (λ z. quiet_law sd r e i Untold refl (idle_inactive r user k)))
+      (λ z. quiet_law sd r e i (Some ForwardIndication) refl (idle_inactive r user k))
+      (λ z. quiet_law sd r e i None refl (idle_inactive r user k)))
 
   invited_law : (e : Event) → invocation_of e ≡ unlisted → (m : Bool) (k : ℕ) → expects sd r.control (DStart m) ≡ true
-      → LawOf sd r e (handed (with_user r true) (DStart m) (StartIndication m k))
+      → LawOf sd r e (handed (with_user r true) (DStart m) (Some (StartIndication m k)))
   unfolding handed enter
-  invited_law e i m k x = handed_law sd r e (DStart m) (StartIndication m k) true i user x refl refl refl
+  invited_law e i m k x = handed_law sd r e (DStart m) (Some (StartIndication m k)) true i user x refl refl refl
 
   -- the confirmation of a forward: at the ground, where the user is active
   awaited_law : (s : Side) → s ≡ sd → (e : Event) → invocation_of e ≡ unlisted → awaits_response r.control ≡ true
@@ -360,40 +361,40 @@ module _ (sd : Side) (r : Record) (f : Runs sd r) where
   unfolding forward_confirmed closes enter
   awaited_law Air a e i k x v = never (sym k ∙ f.ground (sym a))
   awaited_law Ground a e i k x v =
-      taken_law Ground r.active e (ForwardConfirmation x v) false (lawful_at Ground r.active
+      taken_law Ground r.active e (Some (ForwardConfirmation x v)) false (lawful_at Ground r.active
       (not (is_idle r.control)) (invocation_of e) unlisted forward_confirmation forward_confirmation false false
       user i refl refl (confirmed_lawful r.control k))
 
   -- a confirmation without a fault: of a start, or of a forward
   confirmed_law : (e : Event) → invocation_of e ≡ unlisted → (x o s v : ℕ) (a : UserData) (t : Bool)
       → expects sd r.control (DStartCnf (reply_of x)) ≡ t
-      → cond (not t) (cond (awaits_response r.control) (response_fault r x o s a) (NoInstruction true)) (cond
-      (turned_away x o) TurnedAway (cond (differs (secures r.edition) s r.request)
-      (Security (eqb x accepted)) (pdu_fault (spares r.edition)
-      (send_allowed (spares r.edition) (eqb x accepted) a) (eqb x accepted) true a NoFault))) ≡
-      NoFault
+      → cond (not t) (cond (awaits_response r.control) (response_fault r x o s a) (Some (NoInstruction true))) (cond
+      (turned_away x o) (Some TurnedAway) (cond (differs (secures r.edition) s r.request)
+      (Some (Security (eqb x accepted))) (pdu_fault (spares r.edition)
+      (send_allowed (spares r.edition) (eqb x accepted) a) (eqb x accepted) true a None))) ≡
+      None
       → LawOf sd r e (cond (is_response a) (forward_confirmed r (reason_of a) v)
-      (handed (with_timer r false) (DStartCnf (reply_of x)) (StartConfirmation r.control.dsc x)))
+      (handed (with_timer r false) (DStartCnf (reply_of x)) (Some (StartConfirmation r.control.dsc x))))
   confirmed_law e i x o s v a true p k =
-      let away = passed (turned_away x o) TurnedAway _ refl k in
-      let secure = passed (differs (secures r.edition) s r.request) (Security (eqb x accepted)) _ refl away.1 in
+      let away = passed (turned_away x o) (Some TurnedAway) _ refl k in
+      let secure = passed (differs (secures r.edition) s r.request) (Some (Security (eqb x accepted))) _ refl away.1 in
       let n = not_response sd r (spares r.edition) (eqb x accepted) (eqb x accepted) true a secure.1 in
       subst (λ (b : Bool). LawOf sd r e (cond b (forward_confirmed r (reason_of a) v)
-      (handed (with_timer r false) (DStartCnf (reply_of x)) (StartConfirmation r.control.dsc x)))) (sym n)
-      (read_law sd (with_timer r false) e (DStartCnf (reply_of x)) (StartConfirmation r.control.dsc x) i user p refl refl refl)
+      (handed (with_timer r false) (DStartCnf (reply_of x)) (Some (StartConfirmation r.control.dsc x))))) (sym n)
+      (read_law sd (with_timer r false) e (DStartCnf (reply_of x)) (Some (StartConfirmation r.control.dsc x)) i user p refl refl refl)
   confirmed_law e i x o s v a false p k = awaited (awaits_response r.control) refl k
     where
-      awaited : (b : Bool) → awaits_response r.control ≡ b → cond b (response_fault r x o s a) (NoInstruction true) ≡ NoFault
+      awaited : (b : Bool) → awaits_response r.control ≡ b → cond b (response_fault r x o s a) (Some (NoInstruction true)) ≡ None
           → LawOf sd r e (cond (is_response a) (forward_confirmed r (reason_of a) v)
-          (handed (with_timer r false) (DStartCnf (reply_of x)) (StartConfirmation r.control.dsc x)))
+          (handed (with_timer r false) (DStartCnf (reply_of x)) (Some (StartConfirmation r.control.dsc x))))
       awaited true q z =
           subst (λ (b : Bool). LawOf sd r e (cond b (forward_confirmed r (reason_of a) v)
-          (handed (with_timer r false) (DStartCnf (reply_of x)) (StartConfirmation r.control.dsc x))))
+          (handed (with_timer r false) (DStartCnf (reply_of x)) (Some (StartConfirmation r.control.dsc x)))))
           (sym (response_there sd r x o s a z))
           (awaited_law sd refl e i q (reason_of a) v)
       awaited false q z = never (sym (ap is_no_fault z))
 
-  instructed_law : (p : ServicePrimitive) (a : UserData) → first_fault sd r p a ≡ NoFault → LawOf sd r (Service p a) (instructed r p a)
+  instructed_law : (p : ServicePrimitive) (a : UserData) → first_fault sd r p a ≡ None → LawOf sd r (Service p a) (instructed r p a)
   unfolding instructed first_fault confirmation_fault closes enter
   instructed_law (DStartIndication x s q v) a k =
       let there = start_there sd r x s q a k in
@@ -402,12 +403,12 @@ module _ (sd : Side) (r : Record) (f : Runs sd r) where
       (λ n. invited_law (Service (DStartIndication x s q v) a) refl (mode_of a) q.routing (fits_expected sd r x a there.fits n))
   instructed_law (DStartConfirmation x o s v) a k = confirmed_law (Service (DStartConfirmation x o s v) a) refl x o s v
       a (expects sd r.control (DStartCnf (reply_of x))) refl k
-  instructed_law DDataIndication a k = read_law sd r (Service DDataIndication a) DData MessageIndication refl user
+  instructed_law DDataIndication a k = read_law sd r (Service DDataIndication a) DData (Some MessageIndication) refl user
       (send_expected sd r DData _ true a k) refl refl refl
-  instructed_law DEndIndication a k = read_law sd r (Service DEndIndication a) DEnd (EndIndication r.control.dsc)
+  instructed_law DEndIndication a k = read_law sd r (Service DEndIndication a) DEnd (Some (EndIndication r.control.dsc))
       refl user (send_expected sd r DEnd _ true a k) refl refl refl
   instructed_law (DEndConfirmation x) a k =
-      read_law sd r (Service (DEndConfirmation x) a) (DEndCnf (reply_of x)) (EndConfirmation r.control.dsc x) refl
+      read_law sd r (Service (DEndConfirmation x) a) (DEndCnf (reply_of x)) (Some (EndConfirmation r.control.dsc x)) refl
       user (send_expected sd r (DEndCnf (reply_of x)) _ _ a k) refl refl refl
   instructed_law (DAbortIndication o) a k = told_law sd r (Service (DAbortIndication o) a) refl (is_user_abort a) (reason_of a)
   instructed_law DPAbortIndication a k = told_law sd r (Service DPAbortIndication a) refl false _
@@ -415,21 +416,21 @@ module _ (sd : Side) (r : Record) (f : Runs sd r) where
 -- ---- a fault
 
 -- a wrong quality of service tells nobody, and is met in IDLE alone
-abbrev is_quality : Fault → Bool
-is_quality NoFault = false
-is_quality (NoInstruction live) = false
-is_quality Quality = true
-is_quality TurnedAway = false
-is_quality (Security live) = false
-is_quality Missing = false
-is_quality (Invalid live) = false
-is_quality (NotPermitted live) = false
+abbrev is_quality : Option Fault → Bool
+is_quality None = false
+is_quality (Some (NoInstruction live)) = false
+is_quality (Some Quality) = true
+is_quality (Some TurnedAway) = false
+is_quality (Some (Security live)) = false
+is_quality (Some Missing) = false
+is_quality (Some (Invalid live)) = false
+is_quality (Some (NotPermitted live)) = false
 
-either : (b : Bool) (f g : Fault) → is_quality f ≡ false → is_quality g ≡ false → is_quality (cond b f g) ≡ false
+either : (b : Bool) (f g : Option Fault) → is_quality f ≡ false → is_quality g ≡ false → is_quality (cond b f g) ≡ false
 either true f g x y = x
 either false f g x y = y
 
-pdu_quality : (may fits i u : Bool) (a : UserData) (g : Fault) → is_quality g ≡ false → is_quality (pdu_fault may fits i u a g) ≡ false
+pdu_quality : (may fits i u : Bool) (a : UserData) (g : Option Fault) → is_quality g ≡ false → is_quality (pdu_fault may fits i u a g) ≡ false
 unfolding pdu_fault
 pdu_quality may fits i u a g n = either (is_missing a) _ _ (either may _ _ n refl)
     (either (is_invalid a) _ _ refl (either (not fits) _ _ refl n))
@@ -437,7 +438,7 @@ pdu_quality may fits i u a g n = either (is_missing a) _ _ (either may _ _ n ref
 module _ (sd : Side) (r : Record) where
   send_quality : (p : Primitive) (may live : Bool) (a : UserData) → is_quality (send_fault sd r p may live a) ≡ false
   unfolding send_fault
-  send_quality p may live a = either (not (expects sd r.control p)) _ _ refl (pdu_quality may (is_send a) live live a NoFault refl)
+  send_quality p may live a = either (not (expects sd r.control p)) _ _ refl (pdu_quality may (is_send a) live live a None refl)
 
   abort_quality : (p : Primitive) (fits : Bool) → is_quality (abort_fault sd r p fits) ≡ false
   unfolding abort_fault
@@ -449,18 +450,18 @@ module _ (sd : Side) (r : Record) where
       either (not (expects sd r.control (DStartCnf (reply_of x)))) _ _
       (either (awaits_response r.control) _ _ (either (turned_away x o) _ _ refl (either
       (differs (secures r.edition) s r.request) _ _ refl (either (eqb x accepted) _ _
-      (pdu_quality false false true true a NoFault refl)
-      (pdu_quality false (is_response a) false true a NoFault refl)))) refl)
+      (pdu_quality false false true true a None refl)
+      (pdu_quality false (is_response a) false true a None refl)))) refl)
       (either (turned_away x o) _ _ refl (either (differs (secures r.edition) s r.request) _ _ refl (pdu_quality
       (spares r.edition) (send_allowed (spares r.edition) (eqb x accepted) a) (eqb x accepted) true
-      a NoFault refl)))
+      a None refl)))
 
   indication_quality : (x s : ℕ) (q : Qos) (a : UserData) → is_quality (indication_fault sd r x s q a) ≡ true → is_idle r.control ≡ true
   unfolding indication_fault
   indication_quality x s q a e = go (is_idle r.control) e
     where
       go : (b : Bool)
-          → is_quality (cond (not b) (NoInstruction true) (cond (not (qos_fits q)) Quality (cond (differs (secures r.edition) s r.policy) (Security true) (pdu_fault false (start_fits_of sd r x a) true true a (cond (peer_fits sd x) NoFault (NoInstruction true)))))) ≡ true
+          → is_quality (cond (not b) (Some (NoInstruction true)) (cond (not (qos_fits q)) (Some Quality) (cond (differs (secures r.edition) s r.policy) (Some (Security true)) (pdu_fault false (start_fits_of sd r x a) true true a (cond (peer_fits sd x) None (Some (NoInstruction true))))))) ≡ true
           → b ≡ true
       go true k = refl
       go false k = never (sym k)
@@ -475,25 +476,25 @@ module _ (sd : Side) (r : Record) where
   quality_idle (DAbortIndication o) a e = never (sym e ∙ abort_quality DAbort (abort_fits o a))
   quality_idle DPAbortIndication a e = never (sym e ∙ abort_quality DPAbort true)
 
-  answered_law : Runs sd r → (p : ServicePrimitive) (a : UserData) (f : Fault) → first_fault sd r p a ≡ f
+  answered_law : Runs sd r → (p : ServicePrimitive) (a : UserData) (f : Option Fault) → first_fault sd r p a ≡ f
       → LawOf sd r (Service p a) (answered r p a f)
   unfolding answered closes aborts enter
-  answered_law h p a NoFault k = instructed_law sd r h p a k
-  answered_law h p a (NoInstruction live) k = none_law sd r (Service p a) refl (user sd r h) live
-  answered_law h p a Quality k = quiet_law sd r (Service p a) refl Untold refl
+  answered_law h p a None k = instructed_law sd r h p a k
+  answered_law h p a (Some (NoInstruction live)) k = none_law sd r (Service p a) refl (user sd r h) live
+  answered_law h p a (Some Quality) k = quiet_law sd r (Service p a) refl None refl
       (idle_inactive r (user sd r h) (quality_idle p a (ap is_quality k)))
-  answered_law h p a TurnedAway k = told_law sd r (Service p a) refl false _
-  answered_law h p a (Security live) k = except_law sd r (Service p a) refl live _ _
-  answered_law h p a Missing k = except_law sd r (Service p a) refl true _ _
-  answered_law h p a (Invalid live) k = except_law sd r (Service p a) refl live _ _
-  answered_law h p a (NotPermitted live) k = except_law sd r (Service p a) refl live _ _
+  answered_law h p a (Some TurnedAway) k = told_law sd r (Service p a) refl false _
+  answered_law h p a (Some (Security live)) k = except_law sd r (Service p a) refl live _ _
+  answered_law h p a (Some Missing) k = except_law sd r (Service p a) refl true _ _
+  answered_law h p a (Some (Invalid live)) k = except_law sd r (Service p a) refl live _ _
+  answered_law h p a (Some (NotPermitted live)) k = except_law sd r (Service p a) refl live _ _
 
   -- ---- every event
 
   forwarding_law : (k s : ℕ) → r.active ≡ not (is_idle r.control) → takes_forward sd r.control ≡ true
       → LawOf sd r (Forward k s) (forwarded r k s)
   unfolding forwarded enter
-  forwarding_law k s h t = taken_law sd r.active (Forward k s) Untold true (lawful_at sd r.active
+  forwarding_law k s h t = taken_law sd r.active (Forward k s) None true (lawful_at sd r.active
       (not (is_idle r.control)) forward_request forward_request unlisted unlisted true true h refl refl refl
       (forward_lawful sd r.control t))
 
@@ -505,7 +506,7 @@ module _ (sd : Side) (r : Record) where
   acts_law h TimerExpires p = except_law sd r TimerExpires refl true _ _
   acts_law h UnrecoverableSystemError p =
       by_test (LawOf sd r UnrecoverableSystemError) (is_idle r.control) _ _
-      (λ k. quiet_law sd r UnrecoverableSystemError refl Untold refl (idle_inactive r (user sd r h) k))
+      (λ k. quiet_law sd r UnrecoverableSystemError refl None refl (idle_inactive r (user sd r h) k))
       (λ k. except_law sd r UnrecoverableSystemError refl true _ _)
 
   step_law : Runs sd r → (e : Event) → LawOf sd r e (step sd r e)
@@ -519,7 +520,7 @@ module _ (sd : Side) (r : Record) where
   numbered_law h n e v =
       subst (LawOf sd r e) (sym (numbered_is sd r n e v))
       (by_test (LawOf sd r e) (event_fits sd r.edition e && is_stale n e v) _ _
-      (λ k. refused_law sd r.active (entry e (refused Stale r)) refl) (λ k. step_law h e))
+      (λ k. refused_law sd r.active (entry e (refused (Some Stale) r)) refl) (λ k. step_law h e))
 
   numbered_runs : Runs sd r → (n : ℕ) (e : Event) (v : ℕ) → Runs sd (numbered_step sd r n e v).next
   numbered_runs h n e v =

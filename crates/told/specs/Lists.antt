@@ -1,6 +1,6 @@
 -- Who is an active user, and until when: the lists of the documents, item by item, and which item an event is.
 -- Ground: Doc 9880 3.5.5.1.6. Air: Doc 9705 2.3.5.3.1 Note 2. Document 01 adds the accepted DSC-end response to the ground's c).
-use Rattle.std.specs.Prelude.{ℕ, ◌+◌, Bool, true, false, cond, ◌||◌, List, [], ◌∷◌, eqb}
+use Rattle.std.specs.Prelude.{ℕ, ◌+◌, Bool, true, false, cond, ◌||◌, List, [], ◌∷◌, eqb, None, Option, Some}
 use Rattle.control.specs.declared.Side.{Side}
 use Rattle.control.specs.declared.Side.TheVariants.{Air, Ground}
 use Rattle.control.specs.declared.Reply.{Reply}
@@ -12,7 +12,7 @@ use Rattle.machine.specs.declared.event.UserPrimitive.TheVariants.{StartServiceR
 use Rattle.machine.specs.declared.event.Event.{Event}
 use Rattle.machine.specs.declared.event.Event.TheVariants.{User, Forward, Service, TimerExpires, UnrecoverableSystemError}
 use Rattle.machine.specs.declared.outcome.Told.{Told}
-use Rattle.machine.specs.declared.outcome.Told.TheVariants.{Untold, StartIndication, StartConfirmation, MessageIndication, EndIndication, EndConfirmation, UserAbortIndication, ProviderAbortIndication, ForwardIndication, ForwardConfirmation}
+use Rattle.machine.specs.declared.outcome.Told.TheVariants.{StartIndication, StartConfirmation, MessageIndication, EndIndication, EndConfirmation, UserAbortIndication, ProviderAbortIndication, ForwardIndication, ForwardConfirmation}
 
 -- ---- an item of the lists
 
@@ -121,14 +121,14 @@ invocation_of TimerExpires = unlisted
 invocation_of UnrecoverableSystemError = unlisted
 
 -- what the user receives
-abbrev pub receipt_of : Told → Item
-receipt_of Untold = unlisted
-receipt_of (StartIndication m k) = start_indication m
-receipt_of (StartConfirmation m x) = start_confirmation m (reply_of x)
-receipt_of MessageIndication = unlisted
-receipt_of (EndIndication m) = unlisted
-receipt_of (EndConfirmation m x) = end_confirmation m (reply_of x)
-receipt_of (UserAbortIndication x) = user_abort_indication
-receipt_of (ProviderAbortIndication x) = provider_abort_indication
-receipt_of ForwardIndication = unlisted
-receipt_of (ForwardConfirmation x v) = forward_confirmation
+abbrev pub receipt_of : Option Told → Item
+receipt_of None = unlisted
+receipt_of (Some (StartIndication m k)) = start_indication m
+receipt_of (Some (StartConfirmation m x)) = start_confirmation m (reply_of x)
+receipt_of (Some MessageIndication) = unlisted
+receipt_of (Some (EndIndication m)) = unlisted
+receipt_of (Some (EndConfirmation m x)) = end_confirmation m (reply_of x)
+receipt_of (Some (UserAbortIndication x)) = user_abort_indication
+receipt_of (Some (ProviderAbortIndication x)) = provider_abort_indication
+receipt_of (Some ForwardIndication) = unlisted
+receipt_of (Some (ForwardConfirmation x v)) = forward_confirmation

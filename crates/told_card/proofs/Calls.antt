@@ -25,14 +25,12 @@ use Rattle.machine.specs.declared.event.ServicePrimitive.{ServicePrimitive}
 use Rattle.machine.specs.declared.event.Event.{Event}
 use Rattle.machine.specs.declared.event.Event.TheVariants.{User, Forward, Service, TimerExpires, UnrecoverableSystemError}
 use Rattle.machine.specs.declared.outcome.StepRefusal.{StepRefusal}
-use Rattle.machine.specs.declared.outcome.StepRefusal.TheVariants.{None, Shape, Stale, Prohibited, NoMessage, Repeat}
+use Rattle.machine.specs.declared.outcome.StepRefusal.TheVariants.{Shape, Stale, Prohibited, NoMessage, Repeat}
 use Rattle.machine.specs.declared.outcome.Told.{Told}
-use Rattle.machine.specs.declared.outcome.Told.TheVariants.{Untold, StartIndication, StartConfirmation, MessageIndication, EndIndication, EndConfirmation, UserAbortIndication, ProviderAbortIndication, ForwardIndication, ForwardConfirmation}
+use Rattle.machine.specs.declared.outcome.Told.TheVariants.{StartIndication, StartConfirmation, MessageIndication, EndIndication, EndConfirmation, UserAbortIndication, ProviderAbortIndication, ForwardIndication, ForwardConfirmation}
 use Rattle.clauses.proofs.Ways.{by_test}
 use Rattle.numbered.specs.Numbers.{is_start, held_after, numbered_step}
-use Rattle.stored.specs.Stored.{record_bytes, flag, load_at, store_at}
-use Rattle.stored.specs.declared.Loaded.{Loaded}
-use Rattle.stored.specs.declared.Loaded.TheVariants.{Is}
+use Rattle.stored.specs.Stored.{record_bytes, flag, load_at, store_at, is_stored}
 use Rattle.stored.proofs.Storing.{Coded, length_stored, loaded_stored}
 use Rattle.packed.specs.Packed.{codes, packed, invoked_number, told_number, version_number}
 use Rattle.packed.proofs.Unpacked.{invoked_low, told_low, refusal_unpacked, told_unpacked, code_unpacked, parameter_unpacked, last_unpacked}
@@ -46,6 +44,8 @@ use Rattle.told.proofs.Chains.{Lawful, refused_law}
 use Rattle.told.proofs.Single.{Runs, event_law, event_runs}
 use Rattle.told_card.specs.Answers.{Call, start, start_response_of, message_request_of, end_request_of, end_response_of, user_abort_of, forward_request_of, service_primitive, timer_expiry, system_error, answer_of, invocation_by, told_item, entry}
 use Rattle.told_card.proofs.Kept.{result_fits, JobLow, numbered_keeps}
+use Rattle.std.specs.Prelude.{None, Option, Some}
+use Rattle.stored.specs.declared.Stored.{Stored}
 
 -- ---- what the number says of a call that was taken
 
@@ -57,44 +57,44 @@ flag_low : (b : Bool) → flag b < 2
 flag_low true = omega arith
 flag_low false = omega arith
 
-told_back : (t : Told) → result_fits t ≡ true → told_item (told_number t) ≡ receipt_of t
+told_back : (t : Option Told) → result_fits t ≡ true → told_item (told_number t) ≡ receipt_of t
 unfolding told_number
-told_back Untold h = refl
-told_back (StartIndication m k) h = rw
+told_back None h = refl
+told_back (Some (StartIndication m k)) h = rw
     (code_unpacked 1 k (flag m) (omega arith), last_unpacked 1 k (flag m) (omega arith) (flag_low m), flag_back m)
-told_back (StartConfirmation m x) h =
+told_back (Some (StartConfirmation m x)) h =
     rw (
       code_unpacked 2 x (flag m) (omega arith),
       parameter_unpacked 2 x (flag m) (omega arith) (ltb-true x codes h),
       last_unpacked 2 x (flag m) (omega arith) (flag_low m),
       flag_back m,
     )
-told_back MessageIndication h = refl
-told_back (EndIndication m) h = rw (code_unpacked 4 0 (flag m) (omega arith))
-told_back (EndConfirmation m x) h =
+told_back (Some MessageIndication) h = refl
+told_back (Some (EndIndication m)) h = rw (code_unpacked 4 0 (flag m) (omega arith))
+told_back (Some (EndConfirmation m x)) h =
     rw (
       code_unpacked 5 x (flag m) (omega arith),
       parameter_unpacked 5 x (flag m) (omega arith) (ltb-true x codes h),
       last_unpacked 5 x (flag m) (omega arith) (flag_low m),
       flag_back m,
     )
-told_back (UserAbortIndication x) h = rw (code_unpacked 6 x 0 (omega arith))
-told_back (ProviderAbortIndication x) h = rw (code_unpacked 7 x 0 (omega arith))
-told_back ForwardIndication h = refl
-told_back (ForwardConfirmation x v) h = rw (code_unpacked 9 x 0 (omega arith))
+told_back (Some (UserAbortIndication x)) h = rw (code_unpacked 6 x 0 (omega arith))
+told_back (Some (ProviderAbortIndication x)) h = rw (code_unpacked 7 x 0 (omega arith))
+told_back (Some ForwardIndication) h = refl
+told_back (Some (ForwardConfirmation x v)) h = rw (code_unpacked 9 x 0 (omega arith))
 
-refusal_untaken : (w : StepRefusal) → is_none w ≡ false → is_taken (refusal_number w) ≡ false
+refusal_untaken : (w : Option StepRefusal) → is_none w ≡ false → is_taken (refusal_number w) ≡ false
 refusal_untaken None e = never (sym e)
-refusal_untaken Shape e = refl
-refusal_untaken Stale e = refl
-refusal_untaken Prohibited e = refl
-refusal_untaken NoMessage e = refl
-refusal_untaken Repeat e = refl
+refusal_untaken (Some Shape) e = refl
+refusal_untaken (Some Stale) e = refl
+refusal_untaken (Some Prohibited) e = refl
+refusal_untaken (Some NoMessage) e = refl
+refusal_untaken (Some Repeat) e = refl
 
 -- ---- the bytes of a record that a run reaches
 
 pub record Bytes (sd : Side) (b : List ℕ) (x : Record) (n : ℕ) : Type 0 where
-  pub load : load_at b ≡ Is sd x n
+  pub load : load_at b ≡ is_stored sd x n
   pub size : length b ≡ record_bytes
   pub coded : Coded x
   pub low : n < 2 ^ 64
@@ -176,7 +176,7 @@ module _ (sd : Side) (r a b : List ℕ) (x : Record) (n : ℕ) (h : Bytes sd r x
   entering_leaves i k f =
       by_test (Leaves sd x.active i) (ltb (length a) buffer_least) _ _ (λ e. refuses i room refl)
       (λ e. by_test (Leaves sd x.active i) (ltb (length b) buffer_least) _ _ (λ g. refuses i room refl)
-      (λ g. subst (λ (z : Loaded). Leaves sd x.active i (with_record r a b z k)) (sym h.load) f))
+      (λ g. subst (λ (z : Option Stored). Leaves sd x.active i (with_record r a b z k)) (sym h.load) f))
 
   user_leaves : (e : Event) (v : ℕ) (ids msgs checks : List ℕ) (d : Data) → v < 2 ^ 64 → JobLow e
       → Leaves sd x.active (invocation_of e) (user_call r a b e v ids msgs checks d)

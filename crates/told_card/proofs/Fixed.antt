@@ -2,7 +2,7 @@
 -- type, is what peat_fresh was asked for, and no call changes it, on any bytes.
 -- Assumes nothing.
 use mathlib.Core.Path.{◌≡◌, refl, ap, sym, ◌∙◌}
-use mathlib.Core.Bool.{Bool, true, false, cond, not, ◌&&◌}
+use mathlib.Core.Bool.{Bool, true, false, ◌&&◌}
 use mathlib.Core.List.{List, [], ◌∷◌}
 use Prim.Native.Nat.{ℕ, zero, suc, ◌≤◌}
 use native.Mathlib.Omega.{arith}
@@ -11,11 +11,8 @@ use lib.Dec.{leb, ltb, eqb}
 use lib.ListN.{length}
 use Rattle.words.proofs.Laws.{both_left, both_right}
 use Rattle.editions.specs.Editions.{edition_of}
-use Rattle.editions.specs.declared.Edition.{Edition}
 use Rattle.bits.specs.Bits.{bits_to}
 use Rattle.bits.specs.Read.{read_bits}
-use Rattle.bits.specs.declared.Read.{Read}
-use Rattle.bits.specs.declared.Read.TheVariants.{Number, Short}
 use Rattle.apdu.specs.Sizes.{buffer_least}
 use Rattle.apdu.specs.Pdus.{lent}
 use Rattle.apdu.specs.declared.Data.{Data}
@@ -23,7 +20,7 @@ use Rattle.apdu.specs.declared.Forward.{Forward as Forwarded}
 use Rattle.codec.specs.Codec.{given_fits, forward_given_fits}
 use Rattle.control.specs.declared.Side.{Side}
 use Rattle.machine.specs.Codes.{security_values}
-use Rattle.machine.specs.Outcome.{is_none, refused}
+use Rattle.machine.specs.Outcome.{is_none}
 use Rattle.machine.specs.Record.{fresh_record}
 use Rattle.machine.specs.declared.record.Record.{Record}
 use Rattle.machine.specs.declared.event.UserPrimitive.TheVariants.{StartServiceRequest, StartServiceResponse, EndServiceRequest, EndServiceResponse}
@@ -31,20 +28,19 @@ use Rattle.machine.specs.declared.event.ServicePrimitive.{ServicePrimitive}
 use Rattle.machine.specs.declared.event.Event.{Event}
 use Rattle.machine.specs.declared.event.Event.TheVariants.{User, Forward, Service, TimerExpires, UnrecoverableSystemError}
 use Rattle.machine.specs.Event.{event_fits}
-use Rattle.machine.specs.declared.outcome.StepRefusal.TheVariants.{Stale}
 use Rattle.machine.specs.declared.outcome.Outcome.{Outcome}
 use Rattle.clauses.proofs.Ways.{by_test}
 use Rattle.clauses.proofs.Laws.{edition_fixed}
 use Rattle.numbered.specs.Numbers.{is_stale, held_after, numbered_step}
 use Rattle.numbered.proofs.Laws.{numbered_is}
-use Rattle.stored.specs.Stored.{side_byte, state_byte, dsc_byte, timer_byte, active_byte, request_byte, policy_byte, forwards_byte, version_byte, job_bit, job_bits, number_bit, number_bits, record_bits, record_bytes, side_code, end_code, side_of, edition_in, code_at, head_fits, head_of, head_bytes, stored_bytes, version_fits, with_numbers, load_at, Kept, store_at}
-use Rattle.stored.specs.declared.Loaded.{Loaded}
-use Rattle.stored.specs.declared.Loaded.TheVariants.{Is, NoRecord}
+use Rattle.stored.specs.Stored.{side_byte, state_byte, dsc_byte, timer_byte, active_byte, request_byte, policy_byte, forwards_byte, version_byte, job_bit, job_bits, number_bit, number_bits, record_bits, record_bytes, side_code, end_code, side_of, edition_in, code_at, head_fits, head_of, head_bytes, stored_bytes, version_fits, with_numbers, load_at, Kept, store_at, is_stored}
 use Rattle.step.specs.Call.{Carried, Called, pdus_of, finished, concluded, with_record, entering, event_step, user_step, user_call, user_by, forward_step, forward_call, forward_by, data_step, bare_step, service_step, service_call, service_by}
 use Rattle.step.proofs.Taken.{never}
 use Rattle.card.specs.Face.{no_number, message_requested, abort_requested, holds_message, first_number, fresh_call}
 use Rattle.told_card.specs.Answers.{Lent, Call, start, start_response_of, message_request_of, end_request_of, end_response_of, user_abort_of, forward_request_of, service_primitive, timer_expiry, system_error, answer_of, answer, leaves}
 use Rattle.told_card.proofs.Theorems.{fresh_bytes}
+use Rattle.std.specs.Prelude.{None, Option, Some}
+use Rattle.stored.specs.declared.Stored.{Stored}
 
 -- ---- byte 0 of a record says its end and its application type
 
@@ -72,26 +68,26 @@ head_code b h =
     code_back y (leb-true 1 y (both_left (leb 1 y) (leb y 4) q)) (leb-true y 4 (both_right (leb 1 y) (leb y 4) q))
 
 -- what the bytes say
-abbrev code_in : Loaded → ℕ
-code_in (Is sd x n) = end_code sd x.edition
-code_in NoRecord = 0
+abbrev code_in : Option Stored → ℕ
+code_in (Some z) = end_code z.side z.machine.edition
+code_in None = 0
 
-abbrev is_record : Loaded → Bool
-is_record (Is sd x n) = true
-is_record NoRecord = false
+abbrev is_record : Option Stored → Bool
+is_record (Some z) = true
+is_record None = false
 
-pub end_code_is : (b : List ℕ) (sd : Side) (x : Record) (n : ℕ) → load_at b ≡ Is sd x n → end_code sd x.edition ≡ code_at b side_byte
+pub end_code_is : (b : List ℕ) (sd : Side) (x : Record) (n : ℕ) → load_at b ≡ is_stored sd x n → end_code sd x.edition ≡ code_at b side_byte
 unfolding load_at with_numbers
 end_code_is b sd x n =
-    by_test (λ (z : Loaded). z ≡ Is sd x n → end_code sd x.edition ≡ code_at b side_byte) (eqb (length b) record_bytes && head_of b) _ _
+    by_test (λ (z : Option Stored). z ≡ is_stored sd x n → end_code sd x.edition ≡ code_at b side_byte) (eqb (length b) record_bytes && head_of b) _ _
     (λ h. numbers (read_bits (bits_to b record_bits) job_bit job_bits) (read_bits (bits_to b record_bits) number_bit number_bits)
     (both_right (eqb (length b) record_bytes) (head_of b) h))
     (λ h e. never (ap is_record e))
   where
-    numbers : (p q : Read) → head_of b ≡ true → with_numbers b p q ≡ Is sd x n → end_code sd x.edition ≡ code_at b side_byte
-    numbers (Number h next) (Number m last) f e = sym (ap code_in e) ∙ head_code b f
-    numbers (Number h next) Short f e = never (ap is_record e)
-    numbers Short q f e = never (ap is_record e)
+    numbers : (p q : Option (ℕ × ℕ)) → head_of b ≡ true → with_numbers b p q ≡ is_stored sd x n → end_code sd x.edition ≡ code_at b side_byte
+    numbers (Some (h, next)) (Some (m, last)) f e = sym (ap code_in e) ∙ head_code b f
+    numbers (Some (h, next)) None f e = never (ap is_record e)
+    numbers None q f e = never (ap is_record e)
 
 -- ---- no event changes it
 
@@ -116,7 +112,7 @@ module _ (r a b : List ℕ) where
   Same c = code_at c.kept side_byte ≡ code_at r side_byte
 
   event_same : (e : Event) (v : ℕ) (li lm lc : List ℕ) (d : Carried) (sd : Side) (x : Record) (n : ℕ)
-      → load_at r ≡ Is sd x n → Same (event_step numbered_step r a b e v li lm lc d sd x n)
+      → load_at r ≡ is_stored sd x n → Same (event_step numbered_step r a b e v li lm lc d sd x n)
   unfolding concluded finished
   event_same e v li lm lc d sd x n l =
       by_test Same (is_none (numbered_step sd x n e v).refusal) _ _
@@ -124,15 +120,15 @@ module _ (r a b : List ℕ) where
       (ap (end_code sd) (numbered_edition sd x n e v) ∙ end_code_is r sd x n l)) (λ q. refl)
 
   entering_same : (k : Side → Record → ℕ → Called)
-      → ((sd : Side) (x : Record) (n : ℕ) → load_at r ≡ Is sd x n → Same (k sd x n)) → Same (entering r a b k)
+      → ((sd : Side) (x : Record) (n : ℕ) → load_at r ≡ is_stored sd x n → Same (k sd x n)) → Same (entering r a b k)
   unfolding entering with_record
   entering_same k f =
       by_test Same (ltb (length a) buffer_least) _ _ (λ e. refl)
       (λ e. by_test Same (ltb (length b) buffer_least) _ _ (λ g. refl) (λ g. loaded (load_at r) refl))
     where
-      loaded : (z : Loaded) → load_at r ≡ z → Same (with_record r a b z k)
-      loaded (Is sd x n) e = f sd x n e
-      loaded NoRecord e = refl
+      loaded : (z : Option Stored) → load_at r ≡ z → Same (with_record r a b z k)
+      loaded (Some z) e = f z.side z.machine z.number e
+      loaded None e = refl
 
   user_same : (e : Event) (v : ℕ) (ids msgs checks : List ℕ) (d : Data) → Same (user_call r a b e v ids msgs checks d)
   unfolding user_by user_step

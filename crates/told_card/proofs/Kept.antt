@@ -17,7 +17,7 @@ use Rattle.machine.specs.Codes.{security_values, results, start_results, routing
 use Rattle.machine.specs.Record.{with_timer, with_user, with_job, with_request, enter}
 use Rattle.machine.specs.UserData.{is_forward, is_response, is_user_abort, user_data_fits}
 use Rattle.machine.specs.Event.{has_mode, user_fits, service_fits, event_fits}
-use Rattle.machine.specs.Outcome.{is_none, refused}
+use Rattle.machine.specs.Outcome.{is_none}
 use Rattle.machine.specs.Exceptions.{tell, closes, aborts, excepts, no_instruction, timer_expires, system_error}
 use Rattle.machine.specs.Calls.{security_sent, sent, start_request, start_response, message_request, end_request, end_response, user_abort, called}
 use Rattle.machine.specs.Forwards.{forward_request, responds, forward_arrives, forward_confirmed}
@@ -33,33 +33,34 @@ use Rattle.machine.specs.declared.event.ServicePrimitive.TheVariants.{DStartIndi
 use Rattle.machine.specs.declared.event.Event.{Event}
 use Rattle.machine.specs.declared.event.Event.TheVariants.{User, Forward, Service, TimerExpires, UnrecoverableSystemError}
 use Rattle.machine.specs.declared.faults.Fault.{Fault}
-use Rattle.machine.specs.declared.faults.Fault.TheVariants.{NoFault, NoInstruction, Quality, TurnedAway, Security, Missing, Invalid, NotPermitted}
+use Rattle.machine.specs.declared.faults.Fault.TheVariants.{NoInstruction, Quality, TurnedAway, Security, Missing, Invalid, NotPermitted}
 use Rattle.machine.specs.declared.outcome.StepRefusal.{StepRefusal}
 use Rattle.machine.specs.declared.outcome.StepRefusal.TheVariants.{Shape}
 use Rattle.machine.specs.declared.outcome.Invoked.{Invoked}
 use Rattle.machine.specs.declared.outcome.Told.{Told}
-use Rattle.machine.specs.declared.outcome.Told.TheVariants.{Untold, StartIndication, StartConfirmation, MessageIndication, EndIndication, EndConfirmation, UserAbortIndication, ProviderAbortIndication, ForwardIndication, ForwardConfirmation}
+use Rattle.machine.specs.declared.outcome.Told.TheVariants.{StartIndication, StartConfirmation, MessageIndication, EndIndication, EndConfirmation, UserAbortIndication, ProviderAbortIndication, ForwardIndication, ForwardConfirmation}
 use Rattle.machine.specs.declared.outcome.Outcome.{Outcome}
 use Rattle.clauses.proofs.Ways.{by_test}
 use Rattle.numbered.specs.Numbers.{refusal_of, numbered_step}
 use Rattle.stored.proofs.Storing.{Coded}
 use Rattle.packed.specs.Packed.{codes}
 use Rattle.step.proofs.Taken.{never}
+use Rattle.std.specs.Prelude.{None, Option, Some}
 
 -- ---- what is shown
 
 -- the Result of a confirmation is a number of four bits
-abbrev pub result_fits : Told → Bool
-result_fits Untold = true
-result_fits (StartIndication m k) = true
-result_fits (StartConfirmation m x) = ltb x codes
-result_fits MessageIndication = true
-result_fits (EndIndication m) = true
-result_fits (EndConfirmation m x) = ltb x codes
-result_fits (UserAbortIndication x) = true
-result_fits (ProviderAbortIndication x) = true
-result_fits ForwardIndication = true
-result_fits (ForwardConfirmation x v) = true
+abbrev pub result_fits : Option Told → Bool
+result_fits None = true
+result_fits (Some (StartIndication m k)) = true
+result_fits (Some (StartConfirmation m x)) = ltb x codes
+result_fits (Some MessageIndication) = true
+result_fits (Some (EndIndication m)) = true
+result_fits (Some (EndConfirmation m x)) = ltb x codes
+result_fits (Some (UserAbortIndication x)) = true
+result_fits (Some (ProviderAbortIndication x)) = true
+result_fits (Some ForwardIndication) = true
+result_fits (Some (ForwardConfirmation x v)) = true
 
 pub record Keeps (o : Outcome) : Type 0 where
   pub coded : Coded o.next
@@ -105,36 +106,36 @@ job_coded r j h k = record { request = k.request; policy = k.policy; least = k.l
 started_coded : (r : Record) (s : ℕ) → s < security_values → Coded r → Coded (with_request (with_user (with_timer r true) true) s)
 started_coded r s h k = request_coded (with_user (with_timer r true) true) s h (user_coded (with_timer r true) true (timer_coded r true k))
 
-closes_keeps : (r : Record) (t : Told) → Coded r → result_fits t ≡ true → Keeps (closes r t)
+closes_keeps : (r : Record) (t : Option Told) → Coded r → result_fits t ≡ true → Keeps (closes r t)
 unfolding closes
 closes_keeps r t k f = record { coded = enter_coded r _ k; result = f }
 
-aborts_keeps : (r : Record) (p : ℕ) (t : Told) → Coded r → result_fits t ≡ true → Keeps (aborts r p t)
+aborts_keeps : (r : Record) (p : ℕ) (t : Option Told) → Coded r → result_fits t ≡ true → Keeps (aborts r p t)
 unfolding aborts
 aborts_keeps r p t k f = record { coded = enter_coded r _ k; result = f }
 
-tell_fits : (r : Record) (t : Told) → result_fits t ≡ true → result_fits (tell r t) ≡ true
+tell_fits : (r : Record) (t : Option Told) → result_fits t ≡ true → result_fits (tell r t) ≡ true
 unfolding tell
-tell_fits r t f = by_test (λ (z : Told). result_fits z ≡ true) r.active t Untold (λ e. f) (λ e. refl)
+tell_fits r t f = by_test (λ (z : Option Told). result_fits z ≡ true) r.active t None (λ e. f) (λ e. refl)
 
 excepts_keeps : (r : Record) (live : Bool) (p s : ℕ) → Coded r → Keeps (excepts r live p s)
 unfolding excepts
-excepts_keeps r true p s k = aborts_keeps r p _ k (tell_fits r (ProviderAbortIndication s) refl)
-excepts_keeps r false p s k = closes_keeps r _ k (tell_fits r (ProviderAbortIndication s) refl)
+excepts_keeps r true p s k = aborts_keeps r p _ k (tell_fits r (Some (ProviderAbortIndication s)) refl)
+excepts_keeps r false p s k = closes_keeps r _ k (tell_fits r (Some (ProviderAbortIndication s)) refl)
 
 none_keeps : (r : Record) (live : Bool) → Coded r → Keeps (no_instruction r live)
 unfolding no_instruction
-none_keeps r live k = by_test Keeps (is_idle r.control) _ _ (λ e. closes_keeps r Untold k refl) (λ e. excepts_keeps r live _ _ k)
+none_keeps r live k = by_test Keeps (is_idle r.control) _ _ (λ e. closes_keeps r None k refl) (λ e. excepts_keeps r live _ _ k)
 
-handed_keeps : (r : Record) (p : Primitive) (t : Told) → Coded r → result_fits t ≡ true → Keeps (handed r p t)
+handed_keeps : (r : Record) (p : Primitive) (t : Option Told) → Coded r → result_fits t ≡ true → Keeps (handed r p t)
 unfolding handed
 handed_keeps r p t k f = record { coded = enter_coded r _ k; result = f }
 
-responds_keeps : (r : Record) (x s v : ℕ) (t : Told) → Coded r → result_fits t ≡ true → Keeps (responds r x s v t)
+responds_keeps : (r : Record) (x s v : ℕ) (t : Option Told) → Coded r → result_fits t ≡ true → Keeps (responds r x s v t)
 unfolding responds
 responds_keeps r x s v t k f = record { coded = enter_coded r _ k; result = f }
 
-sent_keeps : (r : Record) (c : Call) (i : Invoked) (a : UserData) → Coded r → Keeps (sent r c i a)
+sent_keeps : (r : Record) (c : Call) (i : Option Invoked) (a : UserData) → Coded r → Keeps (sent r c i a)
 unfolding sent
 sent_keeps r c i a k = record { coded = enter_coded r _ k; result = refl }
 
@@ -143,12 +144,12 @@ sent_keeps r c i a k = record { coded = enter_coded r _ k; result = refl }
 arrives_keeps : (r : Record) (s v : ℕ) → Coded r → Keeps (forward_arrives r s v)
 unfolding forward_arrives
 arrives_keeps r s v k =
-    by_test Keeps (not r.forwards) _ _ (λ e. responds_keeps r _ s _ Untold k refl)
-    (λ e. by_test Keeps (eqb v r.version) _ _ (λ f. responds_keeps r _ s _ ForwardIndication k refl)
-    (λ f. responds_keeps r _ s _ Untold k refl))
+    by_test Keeps (not r.forwards) _ _ (λ e. responds_keeps r _ s _ None k refl)
+    (λ e. by_test Keeps (eqb v r.version) _ _ (λ f. responds_keeps r _ s _ (Some ForwardIndication) k refl)
+    (λ f. responds_keeps r _ s _ None k refl))
 
 abort_fits_is : (a : UserData) → result_fits (abort_told a) ≡ true
-abort_fits_is a = by_test (λ (t : Told). result_fits t ≡ true) (is_user_abort a) _ _ (λ e. refl) (λ e. refl)
+abort_fits_is a = by_test (λ (t : Option Told). result_fits t ≡ true) (is_user_abort a) _ _ (λ e. refl) (λ e. refl)
 
 low_fits : (x n : ℕ) → n < codes → ltb x n ≡ true → ltb x codes ≡ true
 low_fits x n h e =
@@ -167,18 +168,18 @@ instructed_keeps r DDataIndication a k f = handed_keeps r _ _ k refl
 instructed_keeps r DEndIndication a k f = handed_keeps r _ _ k refl
 instructed_keeps r (DEndConfirmation x) a k f = handed_keeps r _ _ k (low_fits x results (omega arith) f)
 instructed_keeps r (DAbortIndication o) a k f = closes_keeps r _ k (tell_fits r (abort_told a) (abort_fits_is a))
-instructed_keeps r DPAbortIndication a k f = closes_keeps r _ k (tell_fits r (ProviderAbortIndication _) refl)
+instructed_keeps r DPAbortIndication a k f = closes_keeps r _ k (tell_fits r (Some (ProviderAbortIndication _)) refl)
 
-answered_keeps : (r : Record) (p : ServicePrimitive) (a : UserData) (f : Fault) → Coded r → service_fits p ≡ true → Keeps (answered r p a f)
+answered_keeps : (r : Record) (p : ServicePrimitive) (a : UserData) (f : Option Fault) → Coded r → service_fits p ≡ true → Keeps (answered r p a f)
 unfolding answered
-answered_keeps r p a NoFault k h = instructed_keeps r p a k h
-answered_keeps r p a (NoInstruction live) k h = none_keeps r live k
-answered_keeps r p a Quality k h = aborts_keeps r _ Untold k refl
-answered_keeps r p a TurnedAway k h = closes_keeps r _ k (tell_fits r (ProviderAbortIndication _) refl)
-answered_keeps r p a (Security live) k h = excepts_keeps r live _ _ k
-answered_keeps r p a Missing k h = excepts_keeps r true _ _ k
-answered_keeps r p a (Invalid live) k h = excepts_keeps r live _ _ k
-answered_keeps r p a (NotPermitted live) k h = excepts_keeps r live _ _ k
+answered_keeps r p a None k h = instructed_keeps r p a k h
+answered_keeps r p a (Some (NoInstruction live)) k h = none_keeps r live k
+answered_keeps r p a (Some Quality) k h = aborts_keeps r _ None k refl
+answered_keeps r p a (Some TurnedAway) k h = closes_keeps r _ k (tell_fits r (Some (ProviderAbortIndication _)) refl)
+answered_keeps r p a (Some (Security live)) k h = excepts_keeps r live _ _ k
+answered_keeps r p a (Some Missing) k h = excepts_keeps r true _ _ k
+answered_keeps r p a (Some (Invalid live)) k h = excepts_keeps r live _ _ k
+answered_keeps r p a (Some (NotPermitted live)) k h = excepts_keeps r live _ _ k
 
 -- ---- a call of the user
 
@@ -214,7 +215,7 @@ acts_keeps sd r (Service p a) k h j = answered_keeps r p a (first_fault sd r p a
     (both_left (service_fits p) (user_data_fits r.edition a) h)
 acts_keeps sd r TimerExpires k h j = excepts_keeps r true _ _ k
 acts_keeps sd r UnrecoverableSystemError k h j = by_test Keeps (is_idle r.control) _ _
-    (λ e. closes_keeps r Untold k refl) (λ e. excepts_keeps r true _ _ k)
+    (λ e. closes_keeps r None k refl) (λ e. excepts_keeps r true _ _ k)
 
 -- with a dialogue number, refused or not
 pub numbered_keeps : (sd : Side) (r : Record) (n : ℕ) (e : Event) (v : ℕ) → Coded r → JobLow e → Keeps (numbered_step sd r n e v)
@@ -222,6 +223,6 @@ unfolding numbered_step refusal_of
 numbered_keeps sd r n e v k j =
     by_test Keeps (is_none (refusal_of sd r n e v)) _ _ (λ q. acts_keeps sd r e k (shaped (event_fits sd r.edition e) _ q) j) (λ q. record { coded = k; result = refl })
   where
-    shaped : (s : Bool) (w : StepRefusal) → is_none (cond (not s) Shape w) ≡ true → s ≡ true
+    shaped : (s : Bool) (w : Option StepRefusal) → is_none (cond (not s) (Some Shape) w) ≡ true → s ≡ true
     shaped true w q = refl
     shaped false w q = never q

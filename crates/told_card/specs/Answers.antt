@@ -8,8 +8,7 @@ use Rattle.machine.specs.declared.record.Record.{Record}
 use Rattle.machine.specs.declared.event.UserPrimitive.TheVariants.{StartServiceRequest, StartServiceResponse, EndServiceRequest, EndServiceResponse}
 use Rattle.machine.specs.declared.event.ServicePrimitive.{ServicePrimitive}
 use Rattle.machine.specs.declared.event.Event.TheVariants.{User, TimerExpires, UnrecoverableSystemError}
-use Rattle.stored.specs.Stored.{load_at}
-use Rattle.stored.specs.declared.Loaded.TheVariants.{Is}
+use Rattle.stored.specs.Stored.{load_at, is_stored}
 use Rattle.packed.specs.Packed.{codes}
 use Rattle.step.specs.Call.{Called, service_call, forward_call}
 use Rattle.card.specs.Face.{numbered_call, data_call, plain_call, message_requested, abort_requested, holds_message}
@@ -110,5 +109,5 @@ leaves r (c ∷ cs) = leaves (answer r c).kept cs
 pub record CardToldOnce (sd : Side) (b : List ℕ) (l : List Entry) : Type 0 where
   pub held : Record
   pub number : ℕ
-  pub load : load_at b ≡ Is sd held number
+  pub load : load_at b ≡ is_stored sd held number
   pub told : ToldOnce sd held.active l

@@ -3,6 +3,29 @@
 
 #![tactic(auto)]
 
+ghost use Rattle.std.specs.Prelude.{◌≡◌};
+ghost use Rattle.words.specs.Limits.{unwritten_number};
+
+// Why a writer wrote nothing, and every byte is as it was: a lent buffer under the least size; an argument that breaks a size, its type or its codes, or
+// is more than the lent bytes hold.
+#[derive(Clone, Copy)]
+pub enum Unwritten {
+    Room,
+    Shape,
+}
+
+impl Unwritten {
+    // Document 01's number.
+    pub fn number(self) -> u64
+        ensures { result ≡ unwritten_number self }
+    {
+        match self {
+            Unwritten::Room => Limit::ROOM,
+            Unwritten::Shape => Limit::SHAPE,
+        }
+    }
+}
+
 // A number that a call is held to.
 #[derive(Clone, Copy)]
 pub struct Limit {

@@ -1,18 +1,17 @@
-use mathlib.Core.Path.{sym, ◌∙◌}
+use mathlib.Core.Path.{◌≡◌, sym, ◌∙◌}
 use Rattle.bits.proofs.Bytes.{bits_to_is}
-use Rattle.inner.specs.Messages.{no_header}
-use Rattle.inplace.specs.InPlace.{elements_span}
-use Rattle.inplace.proofs.Bodies.{span_handed, span_went, body_after}
+use Rattle.std.proofs.Common.{rules}
+use Rattle.std.specs.Prelude.{Err}
+use Rattle.inplace.proofs.Bodies.{elements_spanned, elements_after}
 use Rattle.inplace.proofs.elements_span.Goals as goal
 
-pub returns-in_default : goal.returns-in_default
-unfolding elements_span
-returns-in_default c = span_handed _ _ _ _ _ c.body_end-step.ensures c.in_default.is c.step_refusal.ensures
+pub returns-in_err-next : goal.returns-in_err-next
+returns-in_err-next c =
+    let e : c.from_residual.result ≡ Err c.in_err-next.field-0.0 = search rules in
+    rw (elements_spanned _ _ _ _ c.body_end.ensures, c.in_err-next.was) e
 
 pub overflow_sub-result : goal.overflow_sub-result
-overflow_sub-result c =
-    body_after _ _ _ _ no_header (bits_to_is _ _) (sym c.body_end-step.ensures ∙ c.in-Next.is)
+overflow_sub-result c = elements_after _ _ _ _ c.body_end.ensures _ (bits_to_is _ _) c.in_ok-next.was
 
 pub returns : goal.returns
-unfolding elements_span
-returns c = span_went _ _ _ _ c.body_end-step.ensures c.in-Next.is
+returns c = rw (elements_spanned _ _ _ _ c.body_end.ensures, c.in_ok-next.was)

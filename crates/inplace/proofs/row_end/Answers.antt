@@ -1,23 +1,18 @@
-use Prim.Native.Nat.{◌-◌}
+use mathlib.Core.Path.{◌≡◌, ◌∙◌}
 use native.Mathlib.Omega.{arith}
-use borrow.Author.Rules.{rules}
-use Rattle.inplace.proofs.Bodies.{row_start, row_turn, row_bad, row_done}
+use Rattle.std.proofs.Common.{rules}
+use Rattle.std.specs.Prelude.{Err}
+use Rattle.inplace.proofs.Bodies.{row_turn, row_bad, row_done}
 use Rattle.inplace.proofs.row_end.Goals as goal
 
-pub loop-i-init : goal.loop-i-init
-loop-i-init c = (search rules, row_start _ _ _ _)
+pub returns-in_err-p : goal.returns-in_err-p
+returns-in_err-p c =
+    let e : c.from_residual.result ≡ Err c.in_err-p.field-0.0 = search rules in
+    e ∙ row_bad _ _ _ _ _ _ c.loop.invariant _ _ (omega arith) c.read_element.ensures c.in_err-p.was
 
-pub returns-in_default : goal.returns-in_default
-returns-in_default c =
-    row_bad _ _ _ _ _ _ _ _ (omega arith) c.read_element-one.ensures c.in_default.is
-    c.loop-i.invariant.1
-
-pub loop-i-preserved : goal.loop-i-preserved
-loop-i-preserved c = (
-  search rules,
-  row_turn _ _ _ _ _ _ _ _ (omega arith) c.read_element-one.ensures
-      c.in-Next.is c.loop-i.invariant.1,
-)
+pub loop-preserved : goal.loop-preserved
+loop-preserved c =
+    row_turn _ _ _ _ _ _ c.loop.invariant _ _ _ (omega arith) c.read_element.ensures c.in_ok-p.was
 
 pub returns : goal.returns
-returns c = row_done _ _ _ _ _ _ c.loop-i-test.false c.loop-i.invariant.0 c.loop-i.invariant.1
+returns c = row_done _ _ _ _ _ _ c.loop.invariant (omega arith)

@@ -1,11 +1,9 @@
 use mathlib.Core.Path.{◌≡◌}
-use Prim.Native.Nat.{◌≤◌, ◌-◌}
+use Prim.Native.Nat.{◌-◌}
 use Rattle.bits.specs.Bits.{bits_to}
-use Rattle.inner.specs.Places.{laid, row_at}
+use Rattle.inner.specs.Places.{row_at}
+use Rattle.inplace.specs.InPlace.{after}
 use Rattle.inplace.proofs.row_end.Given as goal
 
-abbrev pub invariant-loop-i : goal.invariant-loop-i
-invariant-loop-i l = (l.i ≤ l.n) × ((laid (row_at l.direction (bits_to l.s l.end) l.p (l.n - l.i))).step ≡ (laid (row_at l.direction (bits_to l.s l.end) l.at l.n)).step)
-
-abbrev pub decreases-loop-i : goal.decreases-loop-i
-decreases-loop-i l = l.n - l.i
+abbrev pub invariant-loop : goal.invariant-loop
+invariant-loop l = after (row_at l.direction (bits_to l.s l.end) l.p (l.n - l.counter)) ≡ after (row_at l.direction (bits_to l.s l.end) l.at l.n)

@@ -1,16 +1,13 @@
-use mathlib.Core.Path.{refl}
-use mathlib.Core.Path.{sym, ◌∙◌}
-use Rattle.apdu.proofs.Writers.{too_small, not_fitting, written_out, run_pads, run_copied}
+use Rattle.std.proofs.Common.{rules}
+use mathlib.Core.Path.{refl, sym, ◌∙◌}
+use Rattle.apdu.proofs.Writers.{may_write, turned_away, written_out, run_pads, run_copied}
 use Rattle.apdu.proofs.data_writer.copy_out.Goals as goal
 
--- `apdu::data_writer::copy_out` meets its contract.
--- Assumes nothing.
-pub returns-then-buf-lt-BUFFER : goal.returns-then-buf-lt-BUFFER
-returns-then-buf-lt-BUFFER c = too_small _ _ _ c.if-buf-lt-BUFFER.true
-
-pub returns-then-run_within : goal.returns-then-run_within
-returns-then-run_within c =
-    let ok = sym c.run_within.ensures ∙ c.if-run_within.true in written_out _ _ _ _ _ _ _ _ _ _ c.if-buf-lt-BUFFER.false (run_pads _ _ _ _ c.requires ok) c.run_within.ensures c.if-run_within.true (run_copied _ _ _ _ _ _ _ ok c.copy_bits.ensures) c.place-p.ensures refl c.pad.ensures
+pub returns-in_err-writable : goal.returns-in_err-writable
+returns-in_err-writable c = turned_away _ _ _ c.writable.ensures _ _ _ _ c.in_err-writable.was (search rules) (λ f. sym c.run_within.ensures ∙ f)
 
 pub returns : goal.returns
-returns c = not_fitting _ _ _ _ c.if-buf-lt-BUFFER.false c.run_within.ensures c.if-run_within.false
+returns c =
+    let ok = may_write _ _ _ c.writable.ensures _ _ c.run_within.ensures c.in_ok-writable.was in
+    written_out _ _ _ _ _ _ _ _ _ _ ok.room (run_pads _ _ _ _ c.requires ok.right) refl ok.right
+    (run_copied _ _ _ _ _ _ _ ok.right c.copy_bits.ensures) c.place-p.ensures refl c.pad.ensures

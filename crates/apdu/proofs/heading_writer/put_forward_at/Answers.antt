@@ -7,8 +7,7 @@ put_heading-requires c = heading_asked _ _ _ c.args.counted _ c.requires.0 c.req
 
 pub put_items-requires : goal.put_items-requires
 put_items-requires c = (
-  omega arith,
-  omega arith,
+  (omega arith, omega arith),
   omega arith,
   omega arith,
   items_fit_is c.args.buf.now _ c.args.at

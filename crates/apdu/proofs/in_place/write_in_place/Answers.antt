@@ -1,33 +1,21 @@
-use mathlib.Core.Path.{◌≡◌, refl, sym, ◌∙◌}
-use mathlib.Core.Bool.{true}
-use Rattle.apdu.specs.Pdus.{lent}
-use Rattle.apdu.specs.Writing.{data_fits}
+use Rattle.std.proofs.Common.{rules}
+use mathlib.Core.Path.{refl, sym, ◌∙◌}
 use Rattle.apdu.proofs.Bounds.{data_fits_is}
-use Rattle.apdu.proofs.Writers.{too_small, not_fitting, written_out, as_answer}
+use Rattle.apdu.proofs.Writers.{may_write, turned_away, written_out, as_answer}
 use Rattle.apdu.proofs.InPlaceWriters.{message_pads, message_room}
 use Rattle.apdu.proofs.in_place.write_in_place.Goals as goal
 
-pub returns-then-buf-lt-BUFFER : goal.returns-then-buf-lt-BUFFER
-returns-then-buf-lt-BUFFER c = too_small _ _ _ c.if-buf-lt-BUFFER.true
+pub returns-in_err-writable : goal.returns-in_err-writable
+returns-in_err-writable c = turned_away _ _ _ c.writable.ensures _ _ _ _ c.in_err-writable.was (search rules) (λ f. sym c.data_fits.ensures ∙ f)
 
 pub put_message_in_place-n-requires : goal.put_message_in_place-n-requires
 put_message_in_place-n-requires c =
-    let fits : data_fits (lent c.args.ids.now) (lent c.args.msgs.now) (lent c.args.checks.now) c.args.d ≡ true = sym c.data_fits.ensures ∙ c.if-data_fits.true in (
-      c.requires.0,
-      c.requires.1,
-      (data_fits_is _ _ _ _ fits).message,
-      message_room _ _ _ _ _ _ c.requires.0
-          fits _ c.if-buf-lt-BUFFER.false,
-    )
-
-pub returns-then-data_fits : goal.returns-then-data_fits
-returns-then-data_fits c =
-    let fits : data_fits (lent c.args.ids.now) (lent c.args.msgs.now) (lent c.args.checks.now) c.args.d ≡ true = sym c.data_fits.ensures ∙ c.if-data_fits.true in
-    written_out _ _ _ _ _ _ _ _ _ _ c.if-buf-lt-BUFFER.false
-    (message_pads _ _ _ _ _ _ c.requires.0 fits) c.data_fits.ensures
-    c.if-data_fits.true (as_answer _ _ _ _
-    (message_room _ _ _ _ _ _ c.requires.0 fits _ c.if-buf-lt-BUFFER.false)
-    c.put_message_in_place-n.ensures) refl refl c.pad.ensures
+    let ok = may_write _ _ _ c.writable.ensures _ _ c.data_fits.ensures c.in_ok-writable.was in
+    (c.requires, (data_fits_is _ _ _ _ ok.right).message, message_room _ _ _ _ _ _ c.requires.0 ok.right _ ok.room)
 
 pub returns : goal.returns
-returns c = not_fitting _ _ _ _ c.if-buf-lt-BUFFER.false c.data_fits.ensures c.if-data_fits.false
+returns c =
+    let ok = may_write _ _ _ c.writable.ensures _ _ c.data_fits.ensures c.in_ok-writable.was in
+    written_out _ _ _ _ _ _ _ _ _ _ ok.room (message_pads _ _ _ _ _ _ c.requires.0 ok.right) refl ok.right
+    (as_answer _ _ _ _ (message_room _ _ _ _ _ _ c.requires.0 ok.right _ ok.room) c.put_message_in_place-n.ensures) refl refl
+    c.pad.ensures

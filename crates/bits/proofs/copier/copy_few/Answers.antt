@@ -8,7 +8,7 @@ use Rattle.bits.proofs.copier.copy_few.Goals as goal
 
 pub put_number_at-requires : goal.put_number_at-requires
 put_number_at-requires c =
-    (search rules, search rules, search rules, run_lt _ _ _ _ (omega arith) c.number_at-v.ensures)
+    ((search rules, search rules), search rules, run_lt _ _ _ _ (omega arith) c.number_at-v.ensures)
 
 pub returns-then-n-ne0 : goal.returns-then-n-ne0
 returns-then-n-ne0 c = as_number _ _ _ _ _ _ _ (omega arith) c.number_at-v.ensures c.put_number_at.ensures

@@ -4,5 +4,5 @@ use Rattle.bits.proofs.eight_bytes.number_in_eight.Goals as goal
 
 pub returns : goal.returns
 returns c =
-    in_word _ 64 c.least-q.result _ _ _ _ _ (omega arith) (omega arith) (omega arith)
+    in_word _ 64 c.min-q.result _ _ _ _ _ (omega arith) (omega arith) (omega arith)
     c.eight_at.ensures c.part_of.ensures

@@ -1,23 +1,11 @@
 use borrow.Author.Rules.{rules}
-use Prim.Native.Nat.{◌+◌, ◌*◌, ◌-◌, ◌^◌, ◌≤◌, ◌<◌}
+use Prim.Native.Nat.{◌+◌, ◌*◌, ◌-◌, ◌^◌, ◌<◌}
 use mathlib.Core.Path.{◌≡◌}
 use native.Mathlib.Omega.{arith}
 use lib.Seq.{sets}
 use Rattle.bits.specs.Bits.{bits_n, num_of}
-use Rattle.bits.proofs.Parts.{part_put, part_le, put_lt}
+use Rattle.bits.proofs.Parts.{part_put, put_lt}
 use Rattle.bits.proofs.eight_bytes.with_part.Goals as goal
-
-pub overflow_mul-result : goal.overflow_mul-result
-overflow_mul-result c =
-    let le : c.part_of-old.result * c.pow2-low.result ≤ c.args.w = rw c.pow2-low.ensures
-    (part_le c.args.w _ c.args.n _ c.part_of-old.ensures) in
-    omega (arith, le)
-
-pub overflow_sub-result : goal.overflow_sub-result
-overflow_sub-result c =
-    let le : c.part_of-old.result * c.pow2-low.result ≤ c.args.w = rw c.pow2-low.ensures
-    (part_le c.args.w _ c.args.n _ c.part_of-old.ensures) in
-    le
 
 pub overflow_mul-result-2 : goal.overflow_mul-result-2
 overflow_mul-result-2 c =

@@ -20,8 +20,7 @@ overflow_add-v c =
 pub put_number_at-requires : goal.put_number_at-requires
 put_number_at-requires c =
     let small : c.number_at-w.result < 2 ^ c.args.k = run_lt _ _ _ _ (omega (arith, c.requires)) c.number_at-w.ensures in (
-      omega (arith, c.requires),
-      omega (arith, c.requires),
+      (omega (arith, c.requires), omega (arith, c.requires)),
       omega (arith, c.requires),
       turn_lt _ _ _ _ _ c.requires.1
           c.pow2.ensures small,

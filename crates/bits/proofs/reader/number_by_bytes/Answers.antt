@@ -1,6 +1,5 @@
 use borrow.Author.Rules.{rules}
-use Prim.Native.Nat.{◌-◌}
-use mathlib.Core.Path.{◌≡◌, sym}
+use mathlib.Core.Path.{sym}
 use native.Mathlib.Omega.{arith}
 use lib.Pow.{pow_pos}
 use Rattle.bits.proofs.Numbers.{num_nil}
@@ -15,7 +14,7 @@ pub overflow_mul-v : goal.overflow_mul-v
 overflow_mul-v c =
     omega (
       arith,
-      turn_fits c.loop-i.v c.pow2.result 0 c.loop-i.i c.least-k.result
+      turn_fits c.loop-i.v c.pow2.result 0 c.loop-i.i c.min-k.result
           c.loop-i.invariant.2 c.pow2.ensures (pow_pos _) (omega arith),
     )
 
@@ -24,19 +23,16 @@ overflow_add-v c =
     omega (
       arith,
       turn_fits c.loop-i.v c.pow2.result c.piece.result
-          c.loop-i.i c.least-k.result c.loop-i.invariant.2
+          c.loop-i.i c.min-k.result c.loop-i.invariant.2
           c.pow2.ensures (piece_lt _ _ _ _ c.piece.ensures) (omega arith),
     )
 
 pub loop-i-preserved : goal.loop-i-preserved
 loop-i-preserved c = (
   search rules,
-  turn c.args.s.now c.args.at c.loop-i.i c.least-k.result _ _ _
+  turn c.args.s.now c.args.at c.loop-i.i c.min-k.result _ _ _
       (omega arith) (omega arith) (omega arith) c.pow2.ensures c.piece.ensures
       c.loop-i.invariant.1,
   turn_lt _ _ _ _ _ c.loop-i.invariant.2
       c.pow2.ensures (piece_lt _ _ _ _ c.piece.ensures),
 )
-
-pub returns : goal.returns
-returns c = let e : c.loop-i.i ≡ c.args.n = omega arith in rw (← e) c.loop-i.invariant.1

@@ -7,21 +7,6 @@ use Rattle.bits.proofs.Inside.{Within, is_within, not_within}
 use Rattle.bits.proofs.Putting.{is_put, is_full, in_64}
 use Rattle.bits.proofs.whole_bytes.put_eight_bytes.Goals as goal
 
-pub put_eight-requires : goal.put_eight-requires
-put_eight-requires c =
-    let inside : Within c.args.buf.now c.args.end (8 * c.args.q) 64 = is_within _ _ _ _ _ c.eight_within.ensures c.if-eight_within.true in
-    omega (arith, inside)
-
-pub overflow_mul-result : goal.overflow_mul-result
-overflow_mul-result c =
-    let inside : Within c.args.buf.now c.args.end (8 * c.args.q) 64 = is_within _ _ _ _ _ c.eight_within.ensures c.if-eight_within.true in
-    omega (arith, inside)
-
-pub overflow_add-result : goal.overflow_add-result
-overflow_add-result c =
-    let inside : Within c.args.buf.now c.args.end (8 * c.args.q) 64 = is_within _ _ _ _ _ c.eight_within.ensures c.if-eight_within.true in
-    omega (arith, inside)
-
 pub returns-then-eight_within : goal.returns-then-eight_within
 returns-then-eight_within c =
     let inside : Within c.args.buf.now c.args.end (8 * c.args.q) 64 = is_within _ _ _ _ _ c.eight_within.ensures c.if-eight_within.true in

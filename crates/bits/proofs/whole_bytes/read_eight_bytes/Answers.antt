@@ -4,21 +4,6 @@ use Rattle.bits.proofs.Inside.{Within, is_within, not_within}
 use Rattle.bits.proofs.Reading.{is_short, is_number}
 use Rattle.bits.proofs.whole_bytes.read_eight_bytes.Goals as goal
 
-pub eight_at-requires : goal.eight_at-requires
-eight_at-requires c =
-    let inside : Within c.args.s.now c.args.end (8 * c.args.q) 64 = is_within _ _ _ _ _ c.eight_within.ensures c.if-eight_within.true in
-    omega (arith, inside)
-
-pub overflow_mul-result : goal.overflow_mul-result
-overflow_mul-result c =
-    let inside : Within c.args.s.now c.args.end (8 * c.args.q) 64 = is_within _ _ _ _ _ c.eight_within.ensures c.if-eight_within.true in
-    omega (arith, inside)
-
-pub overflow_add-result : goal.overflow_add-result
-overflow_add-result c =
-    let inside : Within c.args.s.now c.args.end (8 * c.args.q) 64 = is_within _ _ _ _ _ c.eight_within.ensures c.if-eight_within.true in
-    omega (arith, inside)
-
 pub returns-then-eight_within : goal.returns-then-eight_within
 returns-then-eight_within c =
     let inside : Within c.args.s.now c.args.end (8 * c.args.q) 64 = is_within _ _ _ _ _ c.eight_within.ensures c.if-eight_within.true in

@@ -5,15 +5,6 @@ use lib.ListN.{set}
 use Rattle.bits.proofs.Putting.{number_in_byte}
 use Rattle.bits.proofs.writer.put_number_at.Goals as goal
 
-pub bounds-buf-q : goal.bounds-buf-q
-bounds-buf-q c = omega (arith, c.in_one.ensures c.if-in_one.true)
-
-pub with_piece-requires : goal.with_piece-requires
-with_piece-requires c = omega (arith, c.requires, c.in_one.ensures c.if-in_one.true)
-
-pub bounds-buf-q-then-in_one : goal.bounds-buf-q-then-in_one
-bounds-buf-q-then-in_one c = omega (arith, c.in_one.ensures c.if-in_one.true)
-
 pub returns-then-in_one : goal.returns-then-in_one
 returns-then-in_one c =
     let one = c.in_one.ensures c.if-in_one.true in

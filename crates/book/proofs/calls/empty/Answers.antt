@@ -13,17 +13,16 @@ pub returns-then-b-ne-BYTES : goal.returns-then-b-ne-BYTES
 returns-then-b-ne-BYTES c = empty_long _ c.if-b-ne-BYTES.true
 
 pub loop-i-init : goal.loop-i-init
-loop-i-init c = (search rules, search rules, search rules, fill_none _ 0)
+loop-i-init c = (search rules, search rules, fill_none _ 0)
 
 pub loop-i-preserved : goal.loop-i-preserved
 loop-i-preserved c = (
-  omega arith,
-  c.loop-i.invariant.1,
+  c.loop-i.invariant.0,
   omega
       (arith, simp length-sets at (ap length c.clear_eight.ensures)),
   clear_turn _ _ _
-      c.loop-i.i (omega arith) c.loop-i.invariant.3 c.clear_eight.ensures,
+      c.loop-i.i (omega arith) c.loop-i.invariant.2 c.clear_eight.ensures,
 )
 
 pub returns : goal.returns
-returns c = empty_is _ _ (8 * c.loop-i.i) c.loop-i.invariant.1 (omega arith) c.loop-i.invariant.3
+returns c = empty_is _ _ (8 * c.loop-i.i) c.loop-i.invariant.0 (omega arith) c.loop-i.invariant.2

@@ -5,7 +5,4 @@ use lib.ListN.{length, replicate, drop}
 use Rattle.book.proofs.calls.empty.Given as goal
 
 abbrev pub invariant-loop-i : goal.invariant-loop-i
-invariant-loop-i l = (l.i ≤ 65) × (length l.initial.b ≡ 520) × (length l.b ≡ 520) × (l.b ≡ replicate (8 * l.i) 0 ++ drop (8 * l.i) l.initial.b)
-
-abbrev pub decreases-loop-i : goal.decreases-loop-i
-decreases-loop-i l = 65 - l.i
+invariant-loop-i l = (length l.initial.b ≡ 520) × (length l.b ≡ 520) × (l.b ≡ replicate (8 * l.i) 0 ++ drop (8 * l.i) l.initial.b)

@@ -6,15 +6,14 @@ use Rattle.book.proofs.Eights.{write_start, write_turn, write_done}
 use Rattle.book.proofs.eight.put_eight.Goals as goal
 
 pub loop-i-init : goal.loop-i-init
-loop-i-init c = (search rules, refl, write_start _ _ _)
+loop-i-init c = (refl, write_start _ _ _)
 
 pub loop-i-preserved : goal.loop-i-preserved
 loop-i-preserved c = (
-  search rules,
-  simp length-set c.loop-i.invariant.1,
+  simp length-set c.loop-i.invariant.0,
   write_turn _ _ _ _ _ (omega arith)
-      c.loop-i.invariant.2,
+      c.loop-i.invariant.1,
 )
 
 pub returns : goal.returns
-returns c = sym (write_done _ _ _ _ (omega arith)) ∙ c.loop-i.invariant.2
+returns c = sym (write_done _ _ _ _ (omega arith)) ∙ c.loop-i.invariant.1

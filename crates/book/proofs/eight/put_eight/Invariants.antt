@@ -6,7 +6,4 @@ use Rattle.book.specs.Books.{octets}
 use Rattle.book.proofs.eight.put_eight.Given as goal
 
 abbrev pub invariant-loop-i : goal.invariant-loop-i
-invariant-loop-i l = (l.i ≤ 8) × (length l.b ≡ length l.initial.b) × (sets l.b (l.at + l.i) (octets (8 - l.i) l.v) ≡ sets l.initial.b l.at (octets 8 l.v))
-
-abbrev pub decreases-loop-i : goal.decreases-loop-i
-decreases-loop-i l = 8 - l.i
+invariant-loop-i l = (length l.b ≡ length l.initial.b) × (sets l.b (l.at + l.i) (octets (8 - l.i) l.v) ≡ sets l.initial.b l.at (octets 8 l.v))

@@ -1,9 +1,13 @@
-use Rattle.elements.proofs.Measured.{argument_fits_by}
+use mathlib.Core.Path.{◌∙◌}
+use Rattle.elements.proofs.Measured.{argument_parts}
 use Rattle.elements.proofs.measuring.argument_fits.Goals as goal
 
-pub returns : goal.returns
-returns c =
-    argument_fits_by _ _ _ _ _ _ _ _ _ _ _ _ _ c.both-3.ensures c.both-2.ensures
-    c.both.ensures c.both-levels.ensures c.level_fits_use.ensures
-    c.level_fits_use-2.ensures c.time_fits_use.ensures c.code_fits_use.ensures
-    c.text_fits_kind.ensures c.used_by-used.ensures
+pub returns-then-parts_fit : goal.returns-then-parts_fit
+returns-then-parts_fit c =
+    rw (← c.used_by.ensures, ← c.parts_fit.ensures, c.if-parts_fit.true, ← c.text_fits_kind.ensures) at (argument_parts
+    c.args.kind c.args.e c.args.text.now)
+
+pub returns-else-parts_fit : goal.returns-else-parts_fit
+returns-else-parts_fit c =
+    c.if-parts_fit.false ∙ (rw (← c.used_by.ensures, ← c.parts_fit.ensures, c.if-parts_fit.false) at (argument_parts
+    c.args.kind c.args.e c.args.text.now))

@@ -1,6 +1,6 @@
 use native.Mathlib.Omega.{arith}
 use Prim.Native.Nat.{◌-◌}
-use Rattle.envelope.proofs.Numbers.{sums_fit, last_weight, gathers_none, gathers_more, cut_here, ends_value, ends_longer, ends_zero, tenth_large, tenth_zero, tenth_one}
+use Rattle.envelope.proofs.Numbers.{sums_fit, gathers_none, gathers_more, cut_here, ends_value, ends_longer, ends_zero, tenth_other, tenth_one}
 use Rattle.envelope.proofs.groups.gathered.Goals as goal
 
 pub loop-i-init : goal.loop-i-init
@@ -79,26 +79,12 @@ loop-i-preserved c =
 pub returns-then-s-p-2 : goal.returns-then-s-p-2
 returns-then-s-p-2 c = cut_here _ _ _ _ _ _ 0 c.loop-i.invariant c.if-s-p-2.true
 
-pub returns-then-b-gt1 : goal.returns-then-b-gt1
-returns-then-b-gt1 c =
-    tenth_large _ _ _ _ _ _ _ c.loop-i.invariant c.loop-i-test.false c.if-s-p-2.false
-    c.wide-b-2.ensures c.if-b-gt1.true
-
-pub returns-then-b-eq0 : goal.returns-then-b-eq0
-returns-then-b-eq0 c =
-    tenth_zero _ _ _ _ _ _ _ c.loop-i.invariant c.loop-i-test.false c.if-s-p-2.false
-    c.wide-b-2.ensures c.if-b-gt1.false c.if-b-eq0.true
-
-pub overflow_add-result-2 : goal.overflow_add-result-2
-overflow_add-result-2 c =
-    omega (
-      arith,
-      last_weight c.loop-i.i c.loop-i.w c.loop-i-test.false
-          c.loop-i.invariant.count c.loop-i.invariant.weight,
-      c.loop-i.invariant.small,
-    )
+pub returns-then-b-ne1 : goal.returns-then-b-ne1
+returns-then-b-ne1 c =
+    tenth_other _ _ _ _ _ _ _ c.loop-i.invariant c.loop-i-test.false c.if-s-p-2.false
+    c.wide-b-2.ensures c.if-b-ne1.true
 
 pub returns : goal.returns
 returns c =
     tenth_one _ _ _ _ _ _ _ c.loop-i.invariant c.loop-i-test.false c.if-s-p-2.false
-    c.wide-b-2.ensures c.if-b-gt1.false c.if-b-eq0.false
+    c.wide-b-2.ensures c.if-b-ne1.false

@@ -1,29 +1,9 @@
 use native.Mathlib.Omega.{arith}
-use Rattle.envelope.proofs.Numbers.{gathers_none, cut_here, one_byte, one_cut, one_longer, two_bytes}
+use Rattle.envelope.proofs.Numbers.{gathers_none, cut_here, two_bytes}
 use Rattle.envelope.proofs.groups.read_number.Goals as goal
 
 pub returns-then-s-at : goal.returns-then-s-at
 returns-then-s-at c = cut_here _ _ _ _ _ _ 0 (gathers_none _ _) c.if-s-at.true
-
-pub returns-then-b-lt128 : goal.returns-then-b-lt128
-returns-then-b-lt128 c = one_byte _ _ _ c.if-s-at.false c.wide-b.ensures c.if-b-lt128.true
-
-pub returns-then-s-at-lt2 : goal.returns-then-s-at-lt2
-returns-then-s-at-lt2 c =
-    one_cut _ _ _ c.if-s-at.false c.wide-b.ensures c.if-b-lt128.false
-    (omega (arith, c.type_inv.s c.args.at, c.wide-b.ensures)) (omega arith)
-
-pub returns-then-c-lt1 : goal.returns-then-c-lt1
-returns-then-c-lt1 c =
-    one_longer _ _ _ c.if-s-at.false c.wide-b.ensures c.if-b-lt128.false (omega (
-      arith,
-      c.shared_slice_known-2-1.given c.args.at,
-      c.wide-b.ensures,
-    ))
-    _ (omega arith) c.wide-c.ensures (omega arith)
-
-pub overflow_add-result-then-c-lt128 : goal.overflow_add-result-then-c-lt128
-overflow_add-result-then-c-lt128 c = omega (arith, c.shared_slice_known-2-1.given c.args.at, c.wide-b.ensures)
 
 pub returns-then-c-lt128 : goal.returns-then-c-lt128
 returns-then-c-lt128 c =

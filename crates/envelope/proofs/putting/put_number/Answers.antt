@@ -1,7 +1,5 @@
 use native.Mathlib.Omega.{arith}
 use borrow.Author.Rules.{rules}
-use lib.ListN.{length-set}
-use mathlib.Core.Path.{◌∙◌}
 use Rattle.envelope.proofs.Puts.{putting_all, putting_room, putting_more, putting_last}
 use Rattle.envelope.proofs.putting.put_number.Goals as goal
 
@@ -11,20 +9,11 @@ loop-v-init c = putting_all _ _ _ (search rules)
 pub bounds-out-p : goal.bounds-out-p
 bounds-out-p c = putting_room _ _ _ _ _ _ c.loop-v.invariant c.requires
 
-pub overflow_add-p : goal.overflow_add-p
-overflow_add-p c = omega (arith, putting_room _ _ _ _ _ _ c.loop-v.invariant c.requires)
-
 pub loop-v-preserved : goal.loop-v-preserved
 loop-v-preserved c = putting_more _ _ _ _ _ _ c.loop-v.invariant c.loop-v-test.true
 
 pub bounds-out-p-2 : goal.bounds-out-p-2
 bounds-out-p-2 c = putting_room _ _ _ _ _ _ c.loop-v.invariant c.requires
-
-pub overflow_add-result : goal.overflow_add-result
-overflow_add-result c = omega (arith, putting_room _ _ _ _ _ _ c.loop-v.invariant c.requires)
-
-pub shape_of-out : goal.shape_of-out
-shape_of-out c = length-set c.loop-v.out c.loop-v.p c.loop-v.v ∙ c.loop-v.invariant.same
 
 pub returns : goal.returns
 returns c = putting_last _ _ _ _ _ _ c.loop-v.invariant (omega arith)

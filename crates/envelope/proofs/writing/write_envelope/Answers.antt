@@ -1,4 +1,3 @@
-use mathlib.Core.Path.{◌∙◌}
 use native.Mathlib.Omega.{arith}
 use Rattle.envelope.specs.Envelopes.{most_bits, least_room}
 use Rattle.envelope.proofs.Sizes.{Roomy, is_roomy, largest_fits, no_room, no_shape, is_written, puts_are}
@@ -55,11 +54,6 @@ put_bytes-end-requires c =
       omega
           (arith, roomy, c.bytes_for-n.ensures),
     )
-
-pub shape_of-out : goal.shape_of-out
-shape_of-out c =
-    c.put_bytes-end.auto.out ∙
-    (c.put_number-t.auto.out ∙ (c.put_number-q.auto.out ∙ c.put_number-p.auto.out))
 
 pub returns : goal.returns
 returns c =

@@ -6,7 +6,7 @@ use Rattle.fields.proofs.numbers.put_extensible_index.Goals as goal
 pub returns-then-last-i : goal.returns-then-last-i
 returns-then-last-i c = refused _ _ _ _ _ (above_high 0 _ _ (omega arith) c.if-last-i.true)
 
-pub returns-then-n-lt64 : goal.returns-then-n-lt64
-returns-then-n-lt64 c =
-    index_put_once _ _ _ _ _ _ _ (omega arith) c.width-n.ensures c.if-n-lt64.true
+pub returns : goal.returns
+returns c =
+    index_put_once _ _ _ _ _ _ _ (omega arith) c.width-n.ensures c.if-n-ge64.false
     c.if-last-i.false c.put_bits.ensures

@@ -1,19 +1,6 @@
 use native.Mathlib.Omega.{arith}
-use Rattle.envelope.proofs.Puts.{copying_all}
-use Rattle.fragments.proofs.Ranges.{zero_more, zero_done}
+use Rattle.fragments.proofs.Ranges.{zero_more}
 use Rattle.fragments.proofs.putting.put_zeros.Goals as goal
 
-pub loop-i-init : goal.loop-i-init
-loop-i-init c = copying_all _ _ _ _
-
-pub clear-requires : goal.clear-requires
-clear-requires c = omega (arith, c.loop-i.invariant.same)
-
 pub loop-i-preserved : goal.loop-i-preserved
-loop-i-preserved c = rw c.clear.ensures (zero_more _ _ _ _ _ c.loop-i.invariant c.loop-i-test.true)
-
-pub shape_of-out : goal.shape_of-out
-shape_of-out c = c.loop-i.invariant.same
-
-pub returns : goal.returns
-returns c = zero_done _ _ _ _ _ c.loop-i.invariant c.loop-i-test.false
+loop-i-preserved c = rw c.clear.ensures (zero_more _ _ _ _ _ c.loop-i.invariant (omega arith))

@@ -12,40 +12,15 @@ use Rattle.fragments.proofs.Calls.{sized}
 use Rattle.fragments.proofs.Resuming.{Room, has_room, resuming_none, put_fits, rest_fits, whole_fits, still_open, resuming_more, resume_whole, resume_refused, resume_part, resume_shape}
 use Rattle.fragments.proofs.taking.resume.Goals as goal
 
-pub is_unfinished-requires : goal.is_unfinished-requires
-is_unfinished-requires c = omega (arith, c.requires.0, c.requires.1)
-
 pub returns-then-not-is_unfinished : goal.returns-then-not-is_unfinished
 returns-then-not-is_unfinished c =
     resume_shape most_bits _ _ _ _ _ c.is_unfinished.ensures c.if-not-is_unfinished.true
-
-pub held_lacks-lacks-requires : goal.held_lacks-lacks-requires
-held_lacks-lacks-requires c =
-    omega (arith, c.requires.0, c.requires.1)
 
 pub loop-lacks-init : goal.loop-lacks-init
 loop-lacks-init c =
     let space : 11 + c.args.n ≤ length c.args.rec.now = omega (arith, c.requires.0, c.requires.1) in
     let begins : unfinished most_bits (held_in c.args.n c.args.rec.now) ≡ true = sym c.is_unfinished.ensures ∙ c.if-not-is_unfinished.false in
     resuming_none most_bits _ _ _ space _ begins c.held_lacks-lacks.ensures
-
-pub overflow_sub-fragment : goal.overflow_sub-fragment
-overflow_sub-fragment c = omega (arith, c.loop-lacks.invariant.within)
-
-pub overflow_add-to : goal.overflow_add-to
-overflow_add-to c = omega (arith, c.loop-lacks.invariant.within)
-
-pub overflow_add-m : goal.overflow_add-m
-overflow_add-m c =
-    let bytes_rec : AllBytes c.args.rec.now = λ k. omega (arith, c.slice_known-1.given k) in
-    let bytes_fragment : AllBytes c.args.fragment.now = λ k. omega (arith, c.type_inv.fragment k) in
-    let space : 11 + c.args.n ≤ length c.args.rec.now = omega (arith, c.requires.0, c.requires.1) in
-    let roomy : Room most_bits c.loop-lacks.rec c.loop-lacks.m c.loop-lacks.lacks = has_room most_bits _ _ _ space sized c.requires.0 bytes_rec
-    bytes_fragment _ _ _ _ c.loop-lacks.invariant in
-    omega (arith, roomy, largest_is)
-
-pub slice_bounds-put_bytes-end : goal.slice_bounds-put_bytes-end
-slice_bounds-put_bytes-end c = omega (arith, c.loop-lacks.invariant.within, c.loop-lacks-test.true)
 
 pub put_bytes-requires : goal.put_bytes-requires
 put_bytes-requires c =
@@ -55,26 +30,8 @@ put_bytes-requires c =
     put_fits most_bits _ _ _ space sized c.requires.0 bytes_rec
     bytes_fragment _ _ _ _ c.loop-lacks.invariant c.loop-lacks-test.true
 
-pub overflow_add-m-in-loop-lacks : goal.overflow_add-m-in-loop-lacks
-overflow_add-m-in-loop-lacks c =
-    let bytes_rec : AllBytes c.args.rec.now = λ k. omega (arith, c.slice_known-1.given k) in
-    let bytes_fragment : AllBytes c.args.fragment.now = λ k. omega (arith, c.type_inv.fragment k) in
-    let space : 11 + c.args.n ≤ length c.args.rec.now = omega (arith, c.requires.0, c.requires.1) in
-    let roomy : Room most_bits c.loop-lacks.rec c.loop-lacks.m c.loop-lacks.lacks = has_room most_bits _ _ _ space sized c.requires.0 bytes_rec
-    bytes_fragment _ _ _ _ c.loop-lacks.invariant in
-    omega (arith, roomy, largest_is)
-
-pub read_held-x-requires : goal.read_held-x-requires
-read_held-x-requires c =
-    let bytes_rec : AllBytes c.args.rec.now = λ k. omega (arith, c.slice_known-1.given k) in
-    let bytes_fragment : AllBytes c.args.fragment.now = λ k. omega (arith, c.type_inv.fragment k) in
-    let space : 11 + c.args.n ≤ length c.args.rec.now = omega (arith, c.requires.0, c.requires.1) in
-    let roomy : Room most_bits c.loop-lacks.rec c.loop-lacks.m c.loop-lacks.lacks = has_room most_bits _ _ _ space sized c.requires.0 bytes_rec
-    bytes_fragment _ _ _ _ c.loop-lacks.invariant in
-    omega (arith, roomy, c.put_bytes.auto.out)
-
-pub put_head-requires : goal.put_head-requires
-put_head-requires c =
+pub read_held-requires : goal.read_held-requires
+read_held-requires c =
     let bytes_rec : AllBytes c.args.rec.now = λ k. omega (arith, c.slice_known-1.given k) in
     let bytes_fragment : AllBytes c.args.fragment.now = λ k. omega (arith, c.type_inv.fragment k) in
     let space : 11 + c.args.n ≤ length c.args.rec.now = omega (arith, c.requires.0, c.requires.1) in
@@ -89,39 +46,28 @@ in_record-requires c =
     let space : 11 + c.args.n ≤ length c.args.rec.now = omega (arith, c.requires.0, c.requires.1) in
     whole_fits most_bits _ _ _ space sized c.requires.0 bytes_rec
     bytes_fragment _ _ _ _ c.loop-lacks.invariant _ c.loop-lacks-test.true c.put_bytes.ensures _ _
-    c.read_held-x.ensures c.in-Is.is
+    c.read_held.ensures c.in-Ok.is
 
-pub shape_of-rec-in-Is : goal.shape_of-rec-in-Is
-shape_of-rec-in-Is c = c.put_head.auto.rec ∙ (c.put_bytes.auto.out ∙ c.loop-lacks.invariant.same)
-
-pub returns-in-Is : goal.returns-in-Is
-returns-in-Is c =
+pub returns-in-Ok : goal.returns-in-Ok
+returns-in-Ok c =
     let bytes_rec : AllBytes c.args.rec.now = λ k. omega (arith, c.slice_known-1.given k) in
     let bytes_fragment : AllBytes c.args.fragment.now = λ k. omega (arith, c.type_inv.fragment k) in
     let space : 11 + c.args.n ≤ length c.args.rec.now = omega (arith, c.requires.0, c.requires.1) in
     let begins : unfinished most_bits (held_in c.args.n c.args.rec.now) ≡ true = sym c.is_unfinished.ensures ∙ c.if-not-is_unfinished.false in
     resume_whole most_bits _ _ _ space sized c.requires.0 bytes_rec
     bytes_fragment _ _ _ _ c.loop-lacks.invariant _ c.loop-lacks-test.true c.put_bytes.ensures _ _
-    _ _ _ begins c.read_held-x.ensures c.in-Is.is c.put_head.ensures
+    _ _ _ begins c.read_held.ensures c.in-Ok.is c.put_head.ensures
     c.in_record.ensures
 
-pub refuse-requires : goal.refuse-requires
-refuse-requires c =
-    c.put_bytes.auto.out ∙ (c.loop-lacks.invariant.same ∙ c.requires.0)
-
-pub shape_of-rec-then-not-is_cut : goal.shape_of-rec-then-not-is_cut
-shape_of-rec-then-not-is_cut c = c.refuse.auto.rec ∙ (c.put_bytes.auto.out ∙ c.loop-lacks.invariant.same)
-
-pub returns-then-not-is_cut : goal.returns-then-not-is_cut
-returns-then-not-is_cut c =
+pub returns-in_default : goal.returns-in_default
+returns-in_default c =
     let bytes_rec : AllBytes c.args.rec.now = λ k. omega (arith, c.slice_known-1.given k) in
     let bytes_fragment : AllBytes c.args.fragment.now = λ k. omega (arith, c.type_inv.fragment k) in
     let space : 11 + c.args.n ≤ length c.args.rec.now = omega (arith, c.requires.0, c.requires.1) in
     let begins : unfinished most_bits (held_in c.args.n c.args.rec.now) ≡ true = sym c.is_unfinished.ensures ∙ c.if-not-is_unfinished.false in
     resume_refused most_bits _ _ _ space sized c.requires.0 bytes_rec
     bytes_fragment _ _ _ _ c.loop-lacks.invariant _ c.loop-lacks-test.true c.put_bytes.ensures _ _
-    _ _ _ _ begins c.read_held-x.ensures c.in-Refused.is c.is_cut.ensures
-    c.if-not-is_cut.true c.refuse.ensures
+    _ _ _ begins c.read_held.ensures c.in-Err.is c.in_default.not-Cut c.refuse.ensures
 
 pub held_lacks-lacks-requires-in-loop-lacks : goal.held_lacks-lacks-requires-in-loop-lacks
 held_lacks-lacks-requires-in-loop-lacks c =
@@ -150,26 +96,7 @@ loop-lacks-preserved c =
     bytes_fragment _ _ _ _ c.loop-lacks.invariant _ c.loop-lacks-test.true c.put_bytes.ensures _ (
     still_open most_bits _ _ _ space sized c.requires.0 bytes_rec
     bytes_fragment _ _ _ _ c.loop-lacks.invariant _ c.loop-lacks-test.true c.put_bytes.ensures
-    _ _ _ c.read_held-x.ensures c.in-Refused.is c.is_cut.ensures
-    c.if-not-is_cut.false) c.held_lacks-lacks-in-loop-lacks.ensures
-
-pub overflow_add-m-2 : goal.overflow_add-m-2
-overflow_add-m-2 c =
-    let bytes_rec : AllBytes c.args.rec.now = λ k. omega (arith, c.slice_known-1.given k) in
-    let bytes_fragment : AllBytes c.args.fragment.now = λ k. omega (arith, c.type_inv.fragment k) in
-    let space : 11 + c.args.n ≤ length c.args.rec.now = omega (arith, c.requires.0, c.requires.1) in
-    let roomy : Room most_bits c.loop-lacks.rec c.loop-lacks.m c.loop-lacks.lacks = has_room most_bits _ _ _ space sized c.requires.0 bytes_rec
-    bytes_fragment _ _ _ _ c.loop-lacks.invariant in
-    omega (arith, roomy, largest_is)
-
-pub slice_bounds-put_bytes-count-2 : goal.slice_bounds-put_bytes-count-2
-slice_bounds-put_bytes-count-2 c = omega (arith, c.loop-lacks.invariant.within)
-
-pub slice_bounds-put_bytes-start-2 : goal.slice_bounds-put_bytes-start-2
-slice_bounds-put_bytes-start-2 c = omega (arith, c.loop-lacks.invariant.within)
-
-pub slice_bounds-put_bytes-end-2 : goal.slice_bounds-put_bytes-end-2
-slice_bounds-put_bytes-end-2 c = omega (arith, c.loop-lacks.invariant.within)
+    _ _ c.read_held.ensures c.in-Err.is c.in-Cut.is) c.held_lacks-lacks-in-loop-lacks.ensures
 
 pub put_bytes-requires-2 : goal.put_bytes-requires-2
 put_bytes-requires-2 c =
@@ -178,27 +105,6 @@ put_bytes-requires-2 c =
     let space : 11 + c.args.n ≤ length c.args.rec.now = omega (arith, c.requires.0, c.requires.1) in
     rest_fits most_bits _ _ _ space sized c.requires.0 bytes_rec
     bytes_fragment _ _ _ _ c.loop-lacks.invariant c.loop-lacks-test.false
-
-pub overflow_add-n : goal.overflow_add-n
-overflow_add-n c =
-    let bytes_rec : AllBytes c.args.rec.now = λ k. omega (arith, c.slice_known-1.given k) in
-    let bytes_fragment : AllBytes c.args.fragment.now = λ k. omega (arith, c.type_inv.fragment k) in
-    let space : 11 + c.args.n ≤ length c.args.rec.now = omega (arith, c.requires.0, c.requires.1) in
-    let roomy : Room most_bits c.loop-lacks.rec c.loop-lacks.m c.loop-lacks.lacks = has_room most_bits _ _ _ space sized c.requires.0 bytes_rec
-    bytes_fragment _ _ _ _ c.loop-lacks.invariant in
-    omega (arith, roomy, largest_is, c.loop-lacks.invariant.count, c.loop-lacks-test.false)
-
-pub put_head-requires-2 : goal.put_head-requires-2
-put_head-requires-2 c =
-    let bytes_rec : AllBytes c.args.rec.now = λ k. omega (arith, c.slice_known-1.given k) in
-    let bytes_fragment : AllBytes c.args.fragment.now = λ k. omega (arith, c.type_inv.fragment k) in
-    let space : 11 + c.args.n ≤ length c.args.rec.now = omega (arith, c.requires.0, c.requires.1) in
-    let roomy : Room most_bits c.loop-lacks.rec c.loop-lacks.m c.loop-lacks.lacks = has_room most_bits _ _ _ space sized c.requires.0 bytes_rec
-    bytes_fragment _ _ _ _ c.loop-lacks.invariant in
-    omega (arith, roomy, c.put_bytes-2.auto.out)
-
-pub shape_of-rec : goal.shape_of-rec
-shape_of-rec c = c.put_head-2.auto.rec ∙ (c.put_bytes-2.auto.out ∙ c.loop-lacks.invariant.same)
 
 pub returns : goal.returns
 returns c =

@@ -1,5 +1,4 @@
 use native.Mathlib.Omega.{arith}
-use Prim.Native.Nat.{◌-◌}
 use Rattle.layout.proofs.Copied.{copying_all, copying_more, copying_done}
 use Rattle.layout.proofs.bytes.put_bytes.Goals as goal
 
@@ -11,9 +10,6 @@ bounds-out-at c = omega (arith, c.loop-i.invariant.same)
 
 pub loop-i-preserved : goal.loop-i-preserved
 loop-i-preserved c = copying_more _ _ _ _ _ c.loop-i.invariant c.loop-i-test.true
-
-pub shape_of-out : goal.shape_of-out
-shape_of-out c = c.loop-i.invariant.same
 
 pub returns : goal.returns
 returns c = copying_done _ _ _ _ _ c.loop-i.invariant c.loop-i-test.false

@@ -12,32 +12,32 @@ pub returns-in_default : goal.returns-in_default
 returns-in_default c =
     not_carried c.args.direction (message_of c.args.b.now) c.args.text.now _ c.if-out-lt-ROOM.false _ (
     no_header c.args.direction (message_of c.args.b.now) c.args.text.now _
-    (front_measured _ _ c.load_header-h.ensures _ c.header_bits-first.ensures)
+    (front_measured _ _ c.load_header.ensures _ c.header_bits.ensures)
     c.in_default.is) refl
 
-pub laid_bits-size-requires : goal.laid_bits-size-requires
-laid_bits-size-requires c = (
+pub laid_bits-requires : goal.laid_bits-requires
+laid_bits-requires c = (
   c.requires.0,
   c.requires.1,
   c.kinds_of-ks.ensures,
-  sym c.in-Bits.is ∙ front_measured _ _
-      c.load_header-h.ensures _ c.header_bits-first.ensures,
+  sym c.in-Some.is ∙ front_measured _ _
+      c.load_header.ensures _ c.header_bits.ensures,
 )
 
-pub returns-in_default-size : goal.returns-in_default-size
-returns-in_default-size c =
-    not_carried _ _ _ _ c.if-out-lt-ROOM.false _ c.laid_bits-size.ensures c.in_default-size.is
+pub returns-in_default-laid_bits : goal.returns-in_default-laid_bits
+returns-in_default-laid_bits c =
+    not_carried _ _ _ _ c.if-out-lt-ROOM.false _ c.laid_bits.ensures c.in_default-laid_bits.is
 
 pub put_laid-requires : goal.put_laid-requires
 unfolding message_of
 put_laid-requires c = (
   written_count c.args.direction (message_of c.args.b.now) c.args.text.now c.args.out.now
-      c.if-out-lt-ROOM.false _ c.laid_bits-size.ensures _ c.in-Bits-size.is,
+      c.if-out-lt-ROOM.false _ c.laid_bits.ensures _ c.in-Some-laid_bits.is,
   omega arith,
   c.kinds_of-ks.ensures,
 )
 
 pub returns : goal.returns
 returns c =
-    written_out _ _ _ _ c.if-out-lt-ROOM.false _ c.laid_bits-size.ensures _ c.in-Bits-size.is _ _ _ _ _
+    written_out _ _ _ _ c.if-out-lt-ROOM.false _ c.laid_bits.ensures _ c.in-Some-laid_bits.is _ _ _ _ _
     c.put_laid.ensures c.padding.ensures c.put_bits.ensures

@@ -1,42 +1,21 @@
-use mathlib.Core.Path.{ap, sym, ◌∙◌}
-use Rattle.apdu.specs.declared.Decoded.TheVariants as old
-use Rattle.protected.proofs.Leaves.{found_is, found_not, forward_small}
+use mathlib.Core.Path.{◌∙◌}
+use Rattle.protected.proofs.Leaves.{found_is}
 use Rattle.protected.proofs.reading.read_found.Goals as goal
 
-pub returns-in_default : goal.returns-in_default
-returns-in_default c = c.bare.ensures ∙ found_not _ _ _ (sym c.read_apdu.ensures ∙ c.in_default.is)
+pub returns-in-Ok-AbortUser : goal.returns-in-Ok-AbortUser
+returns-in-Ok-AbortUser c = c.bare-in-Ok-AbortUser.ensures ∙ found_is _ _ _ _ _ c.read_apdu.ensures c.in-Ok-AbortUser.is c.in-Ok-AbortUser.field-0-is
 
-pub forward_run-requires : goal.forward_run-requires
-forward_run-requires c =
-    forward_small _ _ _
-    (sym c.read_apdu.ensures ∙ c.in-Is.is ∙ ap old.Is c.in-Forward.is)
+pub returns-in-Ok-AbortProvider : goal.returns-in-Ok-AbortProvider
+returns-in-Ok-AbortProvider c = c.bare-in-Ok-AbortProvider.ensures ∙ found_is _ _ _ _ _ c.read_apdu.ensures c.in-Ok-AbortProvider.is c.in-Ok-AbortProvider.field-0-is
 
-pub returns-in-AbortUser : goal.returns-in-AbortUser
-returns-in-AbortUser c =
-    c.bare-in-AbortUser.ensures ∙ found_is _ _ _
-    (sym c.read_apdu.ensures ∙ c.in-Is.is ∙ ap old.Is c.in-AbortUser.is)
+pub returns-in-Ok-Start : goal.returns-in-Ok-Start
+returns-in-Ok-Start c = rw c.content_of.ensures (found_is _ _ _ _ _ c.read_apdu.ensures c.in-Ok-Start.is c.in-Ok-Start.field-0-is)
 
-pub returns-in-AbortProvider : goal.returns-in-AbortProvider
-returns-in-AbortProvider c =
-    c.bare-in-AbortProvider.ensures ∙ found_is _ _ _
-    (sym c.read_apdu.ensures ∙ c.in-Is.is ∙ ap old.Is c.in-AbortProvider.is)
+pub returns-in-Ok-Send : goal.returns-in-Ok-Send
+returns-in-Ok-Send c = rw c.content_of-in-Ok-Send.ensures (found_is _ _ _ _ _ c.read_apdu.ensures c.in-Ok-Send.is c.in-Ok-Send.field-0-is)
 
-pub returns-in-Start : goal.returns-in-Start
-returns-in-Start c =
-    rw c.content_of-content.ensures (found_is _ _ _ (sym c.read_apdu.ensures ∙ c.in-Is.is ∙ ap
-    old.Is c.in-Start.is))
+pub returns-in-Ok-Forward : goal.returns-in-Ok-Forward
+returns-in-Ok-Forward c = c.forward_run.ensures ∙ found_is _ _ _ _ _ c.read_apdu.ensures c.in-Ok-Forward.is c.in-Ok-Forward.field-0-is
 
-pub returns-in-Send : goal.returns-in-Send
-returns-in-Send c =
-    rw c.content_of-content-in-Send.ensures (found_is _ _ _ (sym c.read_apdu.ensures ∙ c.in-Is.is ∙ ap
-    old.Is c.in-Send.is))
-
-pub returns-in-Forward : goal.returns-in-Forward
-returns-in-Forward c =
-    c.forward_run.ensures ∙ found_is _ _ _
-    (sym c.read_apdu.ensures ∙ c.in-Is.is ∙ ap old.Is c.in-Forward.is)
-
-pub returns-in-ForwardResponse : goal.returns-in-ForwardResponse
-returns-in-ForwardResponse c =
-    c.bare-in-ForwardResponse.ensures ∙ found_is _ _ _
-    (sym c.read_apdu.ensures ∙ c.in-Is.is ∙ ap old.Is c.in-ForwardResponse.is)
+pub returns-in-Ok-ForwardResponse : goal.returns-in-Ok-ForwardResponse
+returns-in-Ok-ForwardResponse c = c.bare-in-Ok-ForwardResponse.ensures ∙ found_is _ _ _ _ _ c.read_apdu.ensures c.in-Ok-ForwardResponse.is c.in-Ok-ForwardResponse.field-0-is

@@ -14,25 +14,25 @@ pub returns-in_default : goal.returns-in_default
 returns-in_default c =
     rest_within most_bits c.args.first.now c.args.second.now _ c.if-m-gt-MOST.false
     c.if-n-gt-MOST.false (rest_refused most_bits c.args.first.now c.args.second.now
-    c.search-s.result _ _ _ c.search-s.ensures c.in_default.is)
+    c.search.result _ c.search.ensures c.in_default.is)
 
-pub returns-in_default-d : goal.returns-in_default-d
-returns-in_default-d c =
+pub returns-in_default-first_difference : goal.returns-in_default-first_difference
+returns-in_default-first_difference c =
     rest_within most_bits c.args.first.now c.args.second.now _ c.if-m-gt-MOST.false
     c.if-n-gt-MOST.false (rest_differs most_bits c.args.first.now c.args.second.now
-    c.search-s.result c.first_difference-d.result _ _ _ c.search-s.ensures
-    c.in-Whole.is c.first_difference-d.ensures c.in_default-d.is)
+    c.search.result c.first_difference.result _ c.search.ensures
+    c.in-Ok.is c.first_difference.ensures c.in_default-first_difference.is)
 
 pub returns-then-m-n : goal.returns-then-m-n
 returns-then-m-n c =
     rest_within most_bits c.args.first.now c.args.second.now _ c.if-m-gt-MOST.false
     c.if-n-gt-MOST.false (rest_second most_bits c.args.first.now c.args.second.now
-    c.search-s.result c.first_difference-d.result c.search-s.ensures c.in-Whole.is
-    c.first_difference-d.ensures c.in-Nowhere.is c.if-m-n.true)
+    c.search.result c.first_difference.result c.search.ensures c.in-Ok.is
+    c.first_difference.ensures c.in-None.is c.if-m-n.true)
 
 pub returns : goal.returns
 returns c =
     rest_within most_bits c.args.first.now c.args.second.now _ c.if-m-gt-MOST.false
     c.if-n-gt-MOST.false (rest_first most_bits c.args.first.now c.args.second.now
-    c.search-s.result c.first_difference-d.result c.search-s.ensures c.in-Whole.is
-    c.first_difference-d.ensures c.in-Nowhere.is c.if-m-n.false)
+    c.search.result c.first_difference.result c.search.ensures c.in-Ok.is
+    c.first_difference.ensures c.in-None.is c.if-m-n.false)

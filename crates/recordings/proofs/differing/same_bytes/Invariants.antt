@@ -3,7 +3,4 @@ use Rattle.recordings.proofs.Sames.{Sames}
 use Rattle.recordings.proofs.differing.same_bytes.Given as goal
 
 abbrev pub invariant-loop-i : goal.invariant-loop-i
-invariant-loop-i l = (l.i ≤ l.n) × (Sames l.a l.p l.b l.q l.n l.i)
-
-abbrev pub decreases-loop-i : goal.decreases-loop-i
-decreases-loop-i l = l.n - l.i
+invariant-loop-i l = Sames l.a l.p l.b l.q l.n l.i

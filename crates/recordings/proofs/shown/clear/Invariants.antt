@@ -6,7 +6,4 @@ use Rattle.recordings.proofs.Shows.{zeros}
 use Rattle.recordings.proofs.shown.clear.Given as goal
 
 abbrev pub invariant-loop-i : goal.invariant-loop-i
-invariant-loop-i l = (length l.tallies ≡ length l.initial.tallies) × (l.i ≤ length l.initial.tallies) × (l.tallies ≡ zeros l.i ++ drop l.i l.initial.tallies)
-
-abbrev pub decreases-loop-i : goal.decreases-loop-i
-decreases-loop-i l = length l.initial.tallies - l.i
+invariant-loop-i l = (length l.tallies ≡ length l.initial.tallies) × (l.tallies ≡ zeros l.i ++ drop l.i l.initial.tallies)

@@ -6,7 +6,6 @@ use Rattle.recordings.proofs.shown.count_shown.Goals as goal
 pub loop-i-init : goal.loop-i-init
 loop-i-init c = (
   search rules,
-  search rules,
   counts_all c.args.which c.args.x.now
       c.args.y.now c.args.n,
 )
@@ -22,14 +21,13 @@ loop-i-preserved c = (
     one_most c.is_shown.result c.one_if-c.result c.one_if-c.ensures,
     c.loop-i.invariant.0,
   ),
-  search rules,
   counts_more c.args.which c.args.x.now
       c.args.y.now c.args.n c.loop-i.c c.loop-i.i c.one_if-c.result
-      c.is_shown.result c.loop-i-test.true c.requires.0 c.requires.1
-      c.is_shown.ensures c.one_if-c.ensures c.loop-i.invariant.2,
+      c.is_shown.result (omega arith) c.requires.0 c.requires.1
+      c.is_shown.ensures c.one_if-c.ensures c.loop-i.invariant.1,
 )
 
 pub returns : goal.returns
 returns c =
     counts_out c.args.which c.args.x.now c.args.y.now c.args.n c.loop-i.c
-    c.loop-i.i (omega arith) c.loop-i.invariant.2
+    c.loop-i.i (omega arith) c.loop-i.invariant.1

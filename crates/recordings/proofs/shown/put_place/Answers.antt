@@ -6,21 +6,20 @@ use Rattle.recordings.proofs.Places.{write_start, write_turn, write_done}
 use Rattle.recordings.proofs.shown.put_place.Goals as goal
 
 pub loop-i-init : goal.loop-i-init
-loop-i-init c = (search rules, refl, write_start _ _ _)
+loop-i-init c = (refl, write_start _ _ _)
 
 pub bounds-list-at : goal.bounds-list-at
-bounds-list-at c = omega (arith, c.loop-i.invariant.1, c.requires)
+bounds-list-at c = omega (arith, c.loop-i.invariant.0, c.requires)
 
 pub loop-i-preserved : goal.loop-i-preserved
 loop-i-preserved c = (
-  search rules,
-  simp length-set c.loop-i.invariant.1,
+  simp length-set c.loop-i.invariant.0,
   write_turn _ _ _ _ _ (omega arith)
-      c.loop-i.invariant.2,
+      c.loop-i.invariant.1,
 )
 
 pub shape_of-list : goal.shape_of-list
-shape_of-list c = c.loop-i.invariant.1
+shape_of-list c = c.loop-i.invariant.0
 
 pub returns : goal.returns
-returns c = sym (write_done _ _ c.loop-i.i _ (omega arith)) ∙ c.loop-i.invariant.2
+returns c = sym (write_done _ _ c.loop-i.i _ (omega arith)) ∙ c.loop-i.invariant.1

@@ -6,7 +6,4 @@ use Rattle.recordings.specs.Showing.{octets}
 use Rattle.recordings.proofs.shown.put_place.Given as goal
 
 abbrev pub invariant-loop-i : goal.invariant-loop-i
-invariant-loop-i l = (l.i ≤ 8) × (length l.list ≡ length l.initial.list) × (sets l.list (l.at + l.i) (octets (8 - l.i) l.job) ≡ sets l.initial.list l.at (octets 8 l.job))
-
-abbrev pub decreases-loop-i : goal.decreases-loop-i
-decreases-loop-i l = 8 - l.i
+invariant-loop-i l = (length l.list ≡ length l.initial.list) × (sets l.list (l.at + l.i) (octets (8 - l.i) l.job) ≡ sets l.initial.list l.at (octets 8 l.job))

@@ -8,7 +8,6 @@ use Rattle.recordings.proofs.shown.put_shown.Goals as goal
 pub loop-i-init : goal.loop-i-init
 loop-i-init c = (
   refl,
-  search rules,
   behind_all c.args.which c.args.x.now c.args.y.now c.args.n c.args.p,
   puts_all c.args.which c.args.block.now c.args.x.now c.args.y.now c.args.n
       c.args.list.now c.args.p,
@@ -26,24 +25,23 @@ bounds-block-i c = omega (arith, c.requires.0)
 pub put_if-k-requires : goal.put_if-k-requires
 put_if-k-requires c =
     behind_room c.args.which c.args.x.now c.args.y.now c.args.n c.args.p
-    c.loop-i.k c.loop-i.i _ c.is_shown-shown.result c.loop-i-test.true
+    c.loop-i.k c.loop-i.i _ c.is_shown-shown.result (omega arith)
     c.requires.1 c.requires.2 c.is_shown-shown.ensures
-    (omega (arith, c.requires.3, c.loop-i.invariant.0)) c.loop-i.invariant.2
+    (omega (arith, c.requires.3, c.loop-i.invariant.0)) c.loop-i.invariant.1
 
 pub loop-i-preserved : goal.loop-i-preserved
 loop-i-preserved c = (
   c.put_if-k.auto.list ∙ c.loop-i.invariant.0,
-  search rules,
   behind_more c.args.which
       c.args.x.now c.args.y.now c.args.n c.args.p c.loop-i.k _
-      c.loop-i.i c.is_shown-shown.result c.loop-i-test.true c.requires.1 c.requires.2
-      c.is_shown-shown.ensures c.put_if-k.ensures.0 c.loop-i.invariant.2,
+      c.loop-i.i c.is_shown-shown.result (omega arith) c.requires.1 c.requires.2
+      c.is_shown-shown.ensures c.put_if-k.ensures.0 c.loop-i.invariant.1,
   puts_more
       c.args.which c.args.block.now c.args.x.now c.args.y.now c.args.n
       c.args.list.now c.loop-i.list _ c.args.p c.loop-i.k _
-      c.loop-i.i c.is_shown-shown.result c.loop-i-test.true c.requires.0 c.requires.1
+      c.loop-i.i c.is_shown-shown.result (omega arith) c.requires.0 c.requires.1
       c.requires.2 c.is_shown-shown.ensures c.put_if-k.ensures.0
-      c.put_if-k.ensures.1 c.loop-i.invariant.3,
+      c.put_if-k.ensures.1 c.loop-i.invariant.2,
 )
 
 pub shape_of-list : goal.shape_of-list
@@ -52,9 +50,9 @@ shape_of-list c = c.loop-i.invariant.0
 pub returns : goal.returns
 returns c = (
   behind_out c.args.which c.args.x.now c.args.y.now c.args.n c.args.p c.loop-i.k
-      c.loop-i.i (omega arith) c.loop-i.invariant.2,
+      c.loop-i.i (omega arith) c.loop-i.invariant.1,
   puts_out c.args.which
       c.args.block.now c.args.x.now c.args.y.now c.args.n c.args.list.now
       c.loop-i.list c.args.p c.loop-i.k c.loop-i.i (omega arith) c.requires.0
-      c.loop-i.invariant.3,
+      c.loop-i.invariant.2,
 )

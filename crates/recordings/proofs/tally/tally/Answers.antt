@@ -15,24 +15,24 @@ tally_one-requires c = (c.requires.0, omega (arith, c.requires.1, c.loop-at.inva
 pub loop-at-smaller : goal.loop-at-smaller
 loop-at-smaller c =
     let bytes : AllBytes c.args.s.now = λ k. omega (arith, c.type_inv.s k) in
-    omega (arith, onward most_bits _ _ _ _ bytes c.read_envelope-x.ensures c.in-Is.is)
+    omega (arith, onward most_bits _ _ _ _ bytes c.read_envelope.ensures c.in-Ok.is)
 
 pub loop-at-preserved : goal.loop-at-preserved
 loop-at-preserved c =
     let bytes : AllBytes c.args.s.now = λ k. omega (arith, c.type_inv.s k) in (
       c.tally_one.auto.tallies ∙ c.loop-at.invariant.0,
       tally_more most_bits _ _ _ _ _ _ _ _
-          bytes c.loop-at-test.true c.read_envelope-x.ensures c.in-Is.is
+          bytes c.loop-at-test.true c.read_envelope.ensures c.in-Ok.is
           c.tally_one.ensures c.loop-at.invariant.1,
     )
 
-pub shape_of-tallies-in-Refused : goal.shape_of-tallies-in-Refused
-shape_of-tallies-in-Refused c = c.loop-at.invariant.0
+pub shape_of-tallies-in-Err : goal.shape_of-tallies-in-Err
+shape_of-tallies-in-Err c = c.loop-at.invariant.0
 
-pub returns-in-Refused : goal.returns-in-Refused
-returns-in-Refused c =
-    tally_stop most_bits _ _ _ _ _ _ _ c.loop-at-test.true c.read_envelope-x.ensures
-    c.in-Refused.is c.loop-at.invariant.1
+pub returns-in-Err : goal.returns-in-Err
+returns-in-Err c =
+    tally_stop most_bits _ _ _ _ _ _ _ c.loop-at-test.true c.read_envelope.ensures
+    c.in-Err.is c.loop-at.invariant.1
 
 pub shape_of-tallies : goal.shape_of-tallies
 shape_of-tallies c = c.loop-at.invariant.0

@@ -6,6 +6,3 @@ use Rattle.replay.proofs.page.mark_line.Given as goal
 
 abbrev pub invariant-loop-i : goal.invariant-loop-i
 invariant-loop-i l = (length l.b ≡ length l.initial.b) × (mark_on (l.n - l.i) l.b l.p l.i ≡ marked_line l.initial.b l.p)
-
-abbrev pub decreases-loop-i : goal.decreases-loop-i
-decreases-loop-i l = l.n - l.i

@@ -6,6 +6,3 @@ use Rattle.replay.proofs.page.remove.Given as goal
 
 abbrev pub invariant-loop-i : goal.invariant-loop-i
 invariant-loop-i l = (length l.p ≡ length l.initial.p) × (draw_on (l.n - l.i) l.p l.i ≡ draw_on (l.n - l.at) l.initial.p l.at)
-
-abbrev pub decreases-loop-i : goal.decreases-loop-i
-decreases-loop-i l = l.n - l.i

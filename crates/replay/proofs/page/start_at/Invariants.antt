@@ -5,6 +5,3 @@ use Rattle.replay.proofs.page.start_at.Given as goal
 
 abbrev pub invariant-loop-i : goal.invariant-loop-i
 invariant-loop-i l = (l.i ≤ l.n) × (start_on (l.n - l.i) l.p l.number l.i ≡ start_in l.p l.number)
-
-abbrev pub decreases-loop-i : goal.decreases-loop-i
-decreases-loop-i l = l.n - l.i

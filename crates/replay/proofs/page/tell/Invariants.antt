@@ -6,6 +6,3 @@ use Rattle.replay.proofs.page.tell.Given as goal
 
 abbrev pub invariant-loop-i : goal.invariant-loop-i
 invariant-loop-i l = (length l.p ≡ length l.initial.p) × (tell_on (l.n - l.i) l.p l.i l.fate ≡ told l.initial.p l.fate)
-
-abbrev pub decreases-loop-i : goal.decreases-loop-i
-decreases-loop-i l = l.n - l.i

@@ -6,6 +6,3 @@ use Rattle.replay.proofs.page.trim.Given as goal
 
 abbrev pub invariant-loop-i : goal.invariant-loop-i
 invariant-loop-i l = (length l.p ≡ length l.initial.p) × (trim_on (l.n - l.i) l.p l.number l.left l.i l.kept l.met ≡ trimmed l.initial.p l.number l.left)
-
-abbrev pub decreases-loop-i : goal.decreases-loop-i
-decreases-loop-i l = l.n - l.i

@@ -1,10 +1,13 @@
+use mathlib.Core.Path.{refl, sym, ap}
+use Rattle.machine.specs.Outcome.{refusal_number, is_none}
 use Rattle.step.proofs.Calling.{is_taken_is, is_refused}
 use Rattle.step.proofs.call.conclude.Goals as goal
 
-pub returns-then-is_none : goal.returns-then-is_none
-returns-then-is_none c =
-    is_taken_is _ _ _ _ _ _ _ _ _ _ c.is_none.ensures c.if-is_none.true c.requires.0 _ _ _ _
-    c.put_reply-sent.ensures c.deliver-out.ensures _ _ c.settle.ensures
+pub returns-in-Some : goal.returns-in-Some
+returns-in-Some c =
+    is_refused _ _ _ _ _ _ _ _ _ _ refl _ (ap is_none c.in-Some.is) (sym (ap refusal_number c.in-Some.is))
 
 pub returns : goal.returns
-returns c = is_refused _ _ _ _ _ _ _ _ _ _ c.is_none.ensures _ c.if-is_none.false c.number.ensures
+returns c =
+    is_taken_is _ _ _ _ _ _ _ _ _ _ refl (ap is_none c.in_default.is) c.requires.0 _ _ _ _
+    c.put_reply-sent.ensures c.deliver-given.ensures _ _ c.settle.ensures

@@ -1,4 +1,0 @@
-use Rattle.replay.proofs.steps.is_down.Goals as goal
-
-pub returns : goal.returns
-returns c = rw (← c.get.ensures)

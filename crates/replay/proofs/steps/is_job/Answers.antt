@@ -1,8 +1,0 @@
-use borrow.Author.Tests.{eq-eqb, ne_eqb}
-use Rattle.replay.proofs.steps.is_job.Goals as goal
-
-pub returns-then-kind-eq4 : goal.returns-then-kind-eq4
-returns-then-kind-eq4 c = rw (eq-eqb _ _ c.if-kind-eq4.true, ← c.entry.ensures)
-
-pub returns : goal.returns
-returns c = rw (ne_eqb _ _ c.if-kind-eq4.false)

@@ -1,7 +1,0 @@
-use Rattle.rows_engine.proofs.events.from_centre.Goals as goal
-
-pub returns-in-Air : goal.returns-in-Air
-returns-in-Air c = rw c.in-Air.is
-
-pub returns-in-Ground : goal.returns-in-Ground
-returns-in-Ground c = rw c.in-Ground.is

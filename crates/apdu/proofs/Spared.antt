@@ -9,7 +9,7 @@ use lib.Dec.{leb, ltb, eqb}
 use lib.ListN.{length}
 use Rattle.bits.specs.Read.{read_bits}
 use Rattle.fields.specs.Additions.{addition_at, stepped_over}
-use Rattle.fields.specs.Fields.{Reading, refused_at, then, field_of, bit_field, width_of, whole_number, length_at, length_from, long_length, length_within, run_at, string_at}
+use Rattle.fields.specs.Fields.{Reading, refused_at, onto, then, field_of, bit_field, width_of, whole_number, length_at, length_from, long_length, length_within, run_at, string_at}
 use Rattle.fields.specs.declared.Refusal.{Refusal}
 use Rattle.fields.specs.declared.Fault.{Fault}
 use Rattle.fields.specs.declared.Fault.TheVariants.{Short, Range, LengthForm, Limit, Default}
@@ -56,6 +56,11 @@ module _ (bad : Refusal) (not : Not bad) where
   pub spared_cond : {B : Type 0} (t : Bool) (x y : Result B Refusal) → Spared x → Spared y → Spared (cond t x y)
   spared_cond true x y h g e = h e
   spared_cond false x y h g e = g e
+
+  -- over any way up that tells refusals apart
+  pub spared_on : {A B : Type 0} (up : Refusal → B) (one : (r : Refusal) → up r ≡ up bad → r ≡ bad) (f : Reading A) (k : A → ℕ → B) → Spared f → ((v : A) (n : ℕ) → k v n ≡ up bad → ⊥) → onto up f k ≡ up bad → ⊥
+  spared_on up one (Ok (v, n)) k h g e = g v n e
+  spared_on up one (Err r) k h g e = h (ap Err (one r e))
 
   -- ---- fields
 

@@ -88,8 +88,9 @@ pub(crate) fn apdu_at(s: &[u8], at: usize, pdus: PduType) -> Result<Apdu, Refusa
     rest_at(s, kind, mode, next)
 }
 
-// Message data by itself, as it is delivered to a user: the lent bytes hold nothing else.
+// Message data by itself, as it is delivered to a user: the lent bytes hold nothing else. (Inlined, as `parts_at` is.)
 #[tactic(auto, unfolding(crate::specs::Reading::whole_within))]
+#[inline(always)]
 pub fn read_data(s: &[u8]) -> Reading<Data>
     ensures { result ≡ whole_data (lent s.now) }
 {

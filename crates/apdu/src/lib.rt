@@ -119,10 +119,12 @@ impl Heading {
     pub const CHARACTERS_LEAST: u64 = 2;
 
     pub const CHARACTERS_MOST: u64 = 8;
-    // Bits of a character, and of an address.
+    // Bits of a character, and of an address; how many addresses there are.
     pub const CHARACTER: usize = 7;
 
     pub const ADDRESS_BITS: usize = 24;
+
+    pub const ADDRESSES: u64 = 16777216;
 
     pub const DIRECTION_LAST: u64 = 1;
 }

@@ -8,8 +8,10 @@ use crate::decoder::ALL;
 use fields::Reading;
 use pdus::Span;
 
-// A field that is there, or not.
+// A field that is there, or not. (This, `parts_at`, `data_at` and `read_data` are inlined: what they answer is copied by each call that hands it
+// on, and `peat_data_part` took up to a fifth more instructions for that.)
 #[tactic(auto, unfolding(crate::specs::Reading::optional_at))]
+#[inline(always)]
 fn optional(s: &[u8], there: bool, at: usize, unit: usize, least: u64, most: u64) -> Reading<u64>
     ensures { result ≡ optional_at (lent s.now) there at unit least most }
 {
@@ -45,6 +47,7 @@ fn part(there: bool, unit: usize, n: u64, next: usize) -> Option<Span>
 
 // The fields, of which the first two are there or not.
 #[tactic(auto, unfolding(crate::specs::Reading::parts_within))]
+#[inline(always)]
 fn parts_at(s: &[u8], at: usize, identified: bool, messaged: bool) -> Reading<Data>
     ensures { result ≡ parts_at (lent s.now) at identified messaged }
 {
@@ -77,6 +80,7 @@ fn with_additions(s: &[u8], parts: Reading<Data>) -> Reading<Data>
 }
 
 #[tactic(auto, unfolding(crate::specs::Reading::data_within))]
+#[inline(always)]
 pub(crate) fn data_at(s: &[u8], at: usize) -> Reading<Data>
     ensures { result ≡ data_at (lent s.now) at }
 {

@@ -299,6 +299,10 @@ pub is_put : (s z : List ℕ) (e at n v : ℕ) (t : Bool) → t ≡ (leb n 64 &&
 unfolding put_number put_if put_run
 is_put s z e at n v t p q w f = rw (← p, q, length_bits_n n v, w.test, f)
 
+-- any width holds zero
+pub zero_held : (n : ℕ) → n ≤ 64 → true ≡ (leb n 64 && ltb 0 (2 ^ n))
+zero_held n h = rw (le-leb n 64 h, lt-ltb 0 (2 ^ n) (pow_pos n))
+
 pub is_full : (s : List ℕ) (e at n v : ℕ) (t : Bool) → t ≡ (leb n 64 && ltb v (2 ^ n)) → t ≡ true
     → leb (at + n) (length (bits_to s e)) ≡ false → left None s ≡ put_number s e at n v
 unfolding put_number put_if put_run

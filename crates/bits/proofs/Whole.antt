@@ -92,3 +92,8 @@ bytes_of_bits (x ∷ a) l n h =
       v,
       bytes_of_bits a l n (λ (i : ℕ). h (suc i)),
     )
+
+-- all the bits of bytes, as a run
+pub run_all : (s : List ℕ) → run s 0 (8 * length s) ≡ bits_of s
+unfolding run
+run_all s = rw (← length_bits_is s) (take-length (bits_of s))

@@ -20,7 +20,7 @@ use Rattle.elements.proofs.Standing.{Stands, stands_join, stands_split, stands_a
 use Rattle.elements.proofs.Whole.{Ranged, ranged, whole_reads, whole_stands, whole_below}
 use Rattle.elements.proofs.Pairs.{pair_reads, pair_stands}
 use Rattle.elements.proofs.Steps.{then_is}
-use Rattle.std.specs.Prelude.{Ok}
+use Rattle.std.specs.Prelude.{Err, Ok}
 
 -- every unit has a range
 pub in_range : (u : ℕ) → u ≤ 3 → Ranged (lowest u) (highest u)
@@ -65,7 +65,7 @@ made u v = record { unit = u; number = v }
 pub level_type_reads : (l : List ℕ) (at next : ℕ) (x : LevelType) → Stands l at (level_type_fits x) (level_type_bits x) next
     → level_type_at l at ≡ Ok (x, next)
 unfolding level_type_fits level_type_bits level_type_at made
-level_type_reads l at next x s = pair_reads made 0 3 lowest highest units in_range l at x.unit x.number next s
+level_type_reads l at next x s = pair_reads Err (λ (u v n : ℕ). Ok (made u v, n)) 0 3 lowest highest units in_range l at x.unit x.number next s
 
 pub level_type_stands : (l : List ℕ) (at next : ℕ) (x : LevelType) → Bits l → level_type_at l at ≡ Ok (x, next)
     → Stands l at (level_type_fits x) (level_type_bits x) next

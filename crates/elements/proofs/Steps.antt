@@ -17,6 +17,11 @@ then_is (Err r) k o go e = never (cc)
 
 -- ---- over any way up
 
+-- what came of it came of a value, or is what stands for the refusal
+pub onto_is : {A B R : Type 0} (refused : Refusal → B) (f : Reading A) (k : A → ℕ → B) (o : B) → ((v : A) (n : ℕ) → f ≡ Ok (v, n) → k v n ≡ o → R) → ((r : Refusal) → refused r ≡ o → R) → onto refused f k ≡ o → R
+onto_is refused (Ok (v, n)) k o go bad e = go v n refl e
+onto_is refused (Err r) k o go bad e = bad r e
+
 -- the reading was refused
 pub handed : {A B : Type 0} (refused : Refusal → B) (f g : Reading A) (r : Refusal) (k : A → ℕ → B) (o : B) → f ≡ g → f ≡ Err r → o ≡ refused r → o ≡ onto refused g k
 handed refused f g r k o p q e = rw (← p, q, e)

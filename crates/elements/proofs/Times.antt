@@ -11,7 +11,7 @@ use Rattle.elements.specs.Arguments.{time_fits, time_bits, time_at}
 use Rattle.elements.proofs.Standing.{Stands}
 use Rattle.elements.proofs.Whole.{Ranged, ranged}
 use Rattle.elements.proofs.Pairs.{pair_reads, pair_stands}
-use Rattle.std.specs.Prelude.{Ok}
+use Rattle.std.specs.Prelude.{Err, Ok}
 
 hours : Ranged 0 23
 hours = ranged _ _ tt tt
@@ -24,7 +24,7 @@ made h m = record { hours = h; minutes = m }
 
 pub time_reads : (l : List ℕ) (at next : ℕ) (x : Time) → Stands l at (time_fits x) (time_bits x) next → time_at l at ≡ Ok (x, next)
 unfolding time_fits time_bits time_at made
-time_reads l at next x s = pair_reads made 0 23 (λ _. 0) (λ _. 59) hours minutes l at x.hours x.minutes next s
+time_reads l at next x s = pair_reads Err (λ (u v n : ℕ). Ok (made u v, n)) 0 23 (λ _. 0) (λ _. 59) hours minutes l at x.hours x.minutes next s
 
 pub time_stands : (l : List ℕ) (at next : ℕ) (x : Time) → Bits l → time_at l at ≡ Ok (x, next)
     → Stands l at (time_fits x) (time_bits x) next

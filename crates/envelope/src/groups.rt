@@ -5,7 +5,7 @@ ghost use Rattle.envelope.specs.Numbers.{number_at};
 use crate::{EnvelopeRefusal, wide};
 
 // The groups that may be followed by another: 64 bits are nine groups of seven, and one bit.
-const FOLLOWED: usize = 9;
+pub const FOLLOWED: usize = 9;
 
 // The number at a position, of any length. Nine groups may be followed by another; the tenth has one bit.
 pub(crate) fn gathered(s: &[u8], at: usize) -> Result<(u64, usize), EnvelopeRefusal>

@@ -101,6 +101,15 @@ run_is l at count n v next e = go (leb (at + count) (length l)) refl e
     go true p q = record { value = sym (ok_value q); place = sym (ok_place q); within = leb-true _ _ p }
     go false p q = let z : ◌≡◌ {A = ℕ} 0 1 = cc in absurd (omega arith)
 
+pub run_not : (l : List ℕ) (at count n : ℕ) (r : Refusal) → run_at l at count n ≡ Err r → leb (at + count) (length l) ≡ false
+unfolding run_at
+run_not l at count n r e = go (leb (at + count) (length l)) refl e
+  where
+    go : (t : Bool) → leb (at + count) (length l) ≡ t
+        → cond {A = Reading ℕ} t (Ok (n, at + count)) (refused_at at Short) ≡ Err r → leb (at + count) (length l) ≡ false
+    go true p q = let z : ◌≡◌ {A = ℕ} 0 1 = cc in absurd (omega arith)
+    go false p q = p
+
 -- more bits than there are pass the end by themselves
 pub past_all : (s : List ℕ) (e at count : ℕ) → e < count → leb (at + count) (length (bits_to s e)) ≡ false
 past_all s e at count h =

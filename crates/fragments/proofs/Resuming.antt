@@ -29,6 +29,12 @@ is_live e q = let o : ◌≡◌ {A = ℕ} 0 1 = cc in omega arith
 pub not_cut : (r : EnvelopeRefusal) (t : Bool) → t ≡ is_cut r → t ≡ false → r ≡ Cut → ⊥
 not_cut r t e h p = let o : t ≡ true = e ∙ rw p in let q : t ≡ false = h in let z : ◌≡◌ {A = ℕ} 0 1 = cc in omega arith
 
+pub cut_is : (r : EnvelopeRefusal) → is_cut r ≡ true → r ≡ Cut
+cut_is Cut e = refl
+cut_is Groups e = let z : ◌≡◌ {A = ℕ} 0 1 = cc in absurd (omega arith)
+cut_is Kind e = let z : ◌≡◌ {A = ℕ} 0 1 = cc in absurd (omega arith)
+cut_is Size e = let z : ◌≡◌ {A = ℕ} 0 1 = cc in absurd (omega arith)
+
 pub cut_not : (r : EnvelopeRefusal) → (r ≡ Cut → ⊥) → is_cut r ≡ false
 cut_not Cut h = absurd (h refl)
 cut_not Groups h = refl

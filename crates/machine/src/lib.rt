@@ -79,7 +79,7 @@ pub fn step_fitting(side: Side, r: Record, e: Event) -> Outcome
 {
     match refusal(side, r, e) {
         None => acts(side, r, e),
-        Some(why) => Outcome::refused(why, r),
+        Some(why) => Outcome::refused(Some(why), r),
     }
 }
 
@@ -89,11 +89,11 @@ pub fn user_fitting(side: Side, r: Record, u: UserPrimitive) -> Outcome
     ensures { result ≡ step_fitting side r (Event.User u) }
 {
     if !takes(side, r.control, call_of(u)) {
-        return Outcome::refused(StepRefusal::Prohibited, r);
+        return Outcome::refused(Some(StepRefusal::Prohibited), r);
     }
     match unsent(r.highest, u) {
         None => called(r, u),
-        Some(why) => Outcome::refused(why, r),
+        Some(why) => Outcome::refused(Some(why), r),
     }
 }
 
@@ -104,7 +104,7 @@ pub fn forward_fitting(side: Side, r: Record, class: u64, security: u64) -> Outc
     if takes_forward(side, r.control) {
         return forward_request(r, class, security);
     }
-    Outcome::refused(StepRefusal::Prohibited, r)
+    Outcome::refused(Some(StepRefusal::Prohibited), r)
 }
 
 #[tactic(auto, unfolding(crate::specs::Step::step_fitting, crate::specs::Step::refusal_fitting, crate::specs::Step::permitted, crate::specs::Step::message_refusal, crate::specs::Step::acts))]
@@ -121,7 +121,7 @@ pub fn timer_fitting(side: Side, r: Record) -> Outcome
     if r.timer {
         return timer_expires(r);
     }
-    Outcome::refused(StepRefusal::Prohibited, r)
+    Outcome::refused(Some(StepRefusal::Prohibited), r)
 }
 
 #[tactic(auto, unfolding(crate::specs::Step::step_fitting, crate::specs::Step::refusal_fitting, crate::specs::Step::permitted, crate::specs::Step::message_refusal, crate::specs::Step::acts))]
@@ -137,7 +137,7 @@ pub fn step(side: Side, r: Record, e: Event) -> Outcome
     ensures { result ≡ step side r e }
 {
     if !e.fits(side, r.edition) {
-        return Outcome::refused(StepRefusal::Shape, r);
+        return Outcome::refused(Some(StepRefusal::Shape), r);
     }
     step_fitting(side, r, e)
 }

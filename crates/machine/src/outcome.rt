@@ -1,5 +1,5 @@
 // What a call answers: a refusal, or the next record with what is invoked, told, written and delivered.
-ghost use Rattle.std.specs.Prelude.{◌≡◌, Some};
+ghost use Rattle.std.specs.Prelude.{◌≡◌};
 ghost use Rattle.machine.specs.Outcome.{refusal_number, refused, outcome};
 
 use crate::event::{Qos, UserData};
@@ -65,27 +65,28 @@ pub struct Outcome {
 }
 
 impl StepRefusal {
-    // Document 01's number.
-    pub fn number(self) -> u64
-        ensures { result ≡ refusal_number (Some self) }
+    // Document 01's number of what an outcome is refused for; 0: not refused.
+    pub fn number(why: Option<StepRefusal>) -> u64
+        ensures { result ≡ refusal_number why }
     {
-        match self {
-            StepRefusal::Shape => 2,
-            StepRefusal::Stale => 6,
-            StepRefusal::Prohibited => 3,
-            StepRefusal::NoMessage => 4,
-            StepRefusal::Repeat => 5,
+        match why {
+            None => 0,
+            Some(StepRefusal::Shape) => 2,
+            Some(StepRefusal::Stale) => 6,
+            Some(StepRefusal::Prohibited) => 3,
+            Some(StepRefusal::NoMessage) => 4,
+            Some(StepRefusal::Repeat) => 5,
         }
     }
 }
 
 impl Outcome {
     // A refused call: the record as it was, and nothing else.
-    pub fn refused(why: StepRefusal, r: Record) -> Outcome
-        ensures { result ≡ refused (Some why) r }
+    pub fn refused(why: Option<StepRefusal>, r: Record) -> Outcome
+        ensures { result ≡ refused why r }
     {
         Outcome {
-            refusal: Some(why),
+            refusal: why,
             next: r,
             invoked: None,
             told: None,

@@ -84,7 +84,7 @@ pub fn step(side: Side, r: Record, held: u64, e: Event, brought: u64) -> Outcome
     ensures { result ≡ numbered_step side r held e brought }
 {
     match looked_over(side, r, held, e, brought) {
-        Some(why) => Outcome::refused(why, r),
+        Some(why) => Outcome::refused(Some(why), r),
         None => machine::step_fitting(side, r, e),
     }
 }
@@ -95,7 +95,7 @@ pub fn user_step(side: Side, r: Record, held: u64, u: UserPrimitive, brought: u6
     ensures { result ≡ numbered_step side r held (Event.User u) brought }
 {
     match looked_over(side, r, held, Event::User(u), brought) {
-        Some(why) => Outcome::refused(why, r),
+        Some(why) => Outcome::refused(Some(why), r),
         None => machine::user_fitting(side, r, u),
     }
 }
@@ -113,7 +113,7 @@ pub fn forward_step(
     ensures { result ≡ numbered_step side r held (Event.Forward class security) brought }
 {
     match looked_over(side, r, held, Event::Forward(class, security), brought) {
-        Some(why) => Outcome::refused(why, r),
+        Some(why) => Outcome::refused(Some(why), r),
         None => machine::forward_fitting(side, r, class, security),
     }
 }

@@ -3,6 +3,7 @@
 
 ghost use Rattle.std.specs.Prelude.{◌≡◌, ◌+◌, ◌*◌, ◌<◌};
 ghost use Rattle.packed.specs.Packed.{codes, invoked_number, invoked_version, packed, primitives, three, told_number, told_version, version_number};
+ghost use Rattle.stored.specs.Stored.{flag};
 
 use machine::outcome::{Invoked, Told};
 
@@ -28,6 +29,13 @@ fn three(code: u64, x: u64, y: u64) -> u64
     code + CODES * (x % CODES + CODES * (y % 2))
 }
 
+// The number of a start's mode: 0 cpdlc, 1 dsc.
+pub fn mode(dsc: bool) -> u64
+    ensures { result ≡ flag dsc }
+{
+    u64::from(dsc)
+}
+
 #[tactic(auto, unfolding(crate::specs::Packed::invoked_number))]
 fn invoked_number(i: Option<Invoked>) -> u64
     ensures { result ≡ invoked_number i }
@@ -51,11 +59,11 @@ fn told_number(t: Option<Told>) -> u64
 {
     match t {
         None => three(0, 0, 0),
-        Some(Told::StartIndication(m, class)) => three(1, class, u64::from(m)),
-        Some(Told::StartConfirmation(m, x)) => three(2, x, u64::from(m)),
+        Some(Told::StartIndication(m, class)) => three(1, class, mode(m)),
+        Some(Told::StartConfirmation(m, x)) => three(2, x, mode(m)),
         Some(Told::MessageIndication) => three(3, 0, 0),
-        Some(Told::EndIndication(m)) => three(4, 0, u64::from(m)),
-        Some(Told::EndConfirmation(m, x)) => three(5, x, u64::from(m)),
+        Some(Told::EndIndication(m)) => three(4, 0, mode(m)),
+        Some(Told::EndConfirmation(m, x)) => three(5, x, mode(m)),
         Some(Told::UserAbortIndication(x)) => three(6, x, 0),
         Some(Told::ProviderAbortIndication(x)) => three(7, x, 0),
         Some(Told::ForwardIndication) => three(8, 0, 0),

@@ -8,7 +8,7 @@ use native.Mathlib.Omega.{arith}
 use lib.Dec.{eqb}
 use lib.ListN.{length, get_or, take}
 use Rattle.words.proofs.Laws.{ok_value}
-use Rattle.fields.specs.Fields.{refusal, refused_at, then, bit_field, extension_bit, digits_in, width_of, whole_number, extensible_index, contents_at, sized_at}
+use Rattle.fields.specs.Fields.{refusal, refused_at, onto, then, bit_field, extension_bit, digits_in, width_of, whole_number, extensible_index, contents_at, sized_at}
 use Rattle.fields.specs.declared.Fault.TheVariants.{Short, Tail, NotCarried}
 use Rattle.fields.specs.declared.Refusal.{Refusal}
 use Rattle.kinds.specs.declared.Direction.{Direction}
@@ -23,9 +23,15 @@ use Rattle.kinds.specs.Elements.{kind_of}
 use Rattle.elements.specs.Arguments.{lowest, highest, number_in_unit, level_type_at, no_type, second_of, level_at, minutes_of, time_at, digit, code_at, free_text_at, designation_at, facility_at, atis_at}
 use Rattle.elements.specs.OneElement.{bare, no_level, with_levels, with_time, with_code, with_characters, characters_of, level_argument, two_levels_argument, time_argument, code_argument, argument_at, last_of, element_at}
 use Rattle.places.specs.Claims.{Seen, went, refused, Sound, seen_field}
-use Rattle.places.proofs.Readers.{never, clash, one_place, one_refusal, sound_value, sound_cond, then_sound, judged, extension_sound, extension_place, whole_sound, whole_place, whole_cut, run_sound, sized_sound}
+use Rattle.places.proofs.Readers.{never, after_field, clash, one_place, one_refusal, sound_value, sound_cond, then_sound, judged, extension_sound, extension_place, whole_sound, whole_place, whole_cut, run_sound, sized_sound}
 use Rattle.std.specs.Prelude.{Err, Ok, Result}
 use Rattle.fields.specs.Fields.{Reading}
+
+-- after a reading, whatever the answer
+pub onto_sound : {X A : Type 0} (seen : A → Seen) (up : Refusal → A) → ((r : Refusal) → seen (up r) ≡ refused r) → (f : List ℕ → Reading X) (k : X → ℕ → List ℕ → A) (l : List ℕ) (at : ℕ) → Sound seen_field f l at
+    → ((v : X) (n : ℕ) → f l ≡ Ok (v, n) → at ≤ n → n ≤ length l → Sound seen (k v n) l n) → Sound seen
+    (λ (m : List ℕ). onto up (f m) (λ (v : X) (n : ℕ). k v n m)) l at
+onto_sound {X} {A} seen up said f k l at s on = after_field seen up (onto up) said (λ (v : X) (n : ℕ) (c : X → ℕ → A). refl) (λ (r : Refusal) (c : X → ℕ → A). refl) f k l at s on
 
 -- ---- a level
 

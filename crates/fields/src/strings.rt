@@ -31,7 +31,7 @@ fn within_end(s: &[u8], end: usize, at: usize, count: usize, n: usize) -> Readin
 }
 
 // A string with a length, of which from least to most items are carried. (Inlined: its bounds are constants wherever the archive calls it, and
-// a call of its own took `peat_data_part` six to ten in a hundred more instructions.)
+// a call of its own took `peat_data_part` up to ten in a hundred more instructions.)
 #[tactic(auto, unfolding(crate::specs::Fields::string_at))]
 #[inline(always)]
 pub fn string(s: &[u8], end: usize, at: usize, unit: usize, least: u64, most: u64) -> Reading<u64>
